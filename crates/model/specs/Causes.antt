@@ -1,0 +1,94 @@
+-- What an entry's events and its reply have as their causes in the step's link calls.
+use Rattle.std.specs.Prelude.{ℕ, ℤ, ◌+◌, ◌<◌, ◌≤◌, ◌≡◌, ◌≢◌, ◌⊎◌, ◌↔◌, max, Bool, true, false, List, [], ◌∷◌, map, Contains, IsTrue, Option, Some, None, ◌||◌, All}
+use Rattle.model.specs.Log.{TopicPart}
+use Rattle.model.specs.Walk.{Place}
+use Rattle.model.specs.World.{Consumer, World, IsInOrder}
+use Rattle.model.specs.World.Mode.{ByTopics}
+use Rattle.model.specs.Entry.{Call, Entry, Event, is_zero}
+use Rattle.model.specs.Entry.Act.{Records}
+use Rattle.model.specs.Entry.Call.{Of}
+use Rattle.model.specs.Entry.Event.{Rebalanced, Looked}
+use Rattle.model.specs.Entry.Reply.{Broker, Want}
+use Rattle.model.specs.Look.{is_listed, is_passed}
+use Rattle.model.specs.Legal.{Counts, entry_tally, is_fault, is_refusal}
+
+-- what came of the pump of a look; `Unpumped` where none was made
+pub data Pumped : Type 0 where
+  Unpumped Steady NotYet Lost : Pumped
+  Shared : List TopicPart → Pumped
+
+-- The member is out of its generation.
+abbrev pub is_out : Pumped → Bool
+is_out NotYet = true
+is_out Lost = true
+is_out _ = false
+
+-- the partitions that are to be fixed: those given now, or those given before and not fixed yet
+abbrev pub to_fix : Pumped → Option (List TopicPart) → Option (List TopicPart)
+to_fix (Shared ats) unfixed = Some ats
+to_fix Steady unfixed = unfixed
+to_fix _ unfixed = None
+
+-- the places are those of the given partitions whose topic is in the list, sorted and without repeats
+pub record IsShare (topics : List (List ℕ)) (given : List TopicPart) (places : List Place) : Type 0 where
+  pub same : (at : TopicPart) → Contains (map (λ place. place.at) places) at ↔ (Contains given at × IsTrue (is_listed topics at.topic))
+  pub order : IsInOrder places
+
+-- When a look has a Rebalanced event, and with which places. `old` are the places before it; `looked` says that Looked comes.
+abbrev pub Rebalances : Consumer → Pumped → Option (List TopicPart) → (looked : Type 0) → Option (List Place) → Type 0
+Rebalances c pumped unfixed looked None = looked → (to_fix pumped unfixed ≡ None) × (is_out pumped ≡ true → c.assignment ≡ [])
+Rebalances c pumped unfixed looked (Some places) =
+    ((given : List TopicPart) × (to_fix pumped unfixed ≡ Some given) × IsShare c.topics given places)
+    ⊎ ((is_out pumped ≡ true) × (places ≡ []) × (c.assignment ≢ []))
+
+-- A look pumps exactly where the mode is topics and no commit ended it before. What an answer raised is counted.
+pub record IsPumped (before after : Counts) (c : Consumer) (reached : Type 0) (pumped : Pumped) : Type 0 where
+  pub pumps : c.mode ≡ ByTopics → reached → pumped ≢ Unpumped
+  pub quiet : c.mode ≢ ByTopics → pumped ≡ Unpumped
+  pub steady : pumped ≡ Steady → before.beats < after.beats
+  pub not_yet : pumped ≡ NotYet → before.polls < after.polls
+  pub lost : pumped ≡ Lost → before.refusals < after.refusals
+  pub shared : (ats : List TopicPart) → pumped ≡ Shared ats → before.polls < after.polls
+
+pub record Rises (before after : Counts) : Type 0 where
+  pub faults : before.faults ≤ after.faults
+  pub refusals : before.refusals ≤ after.refusals
+  pub polls : before.polls ≤ after.polls
+  pub beats : before.beats ≤ after.beats
+
+abbrev pub is_records : Option Call → Bool
+is_records (Some (Of key (Records formats timeout bound))) = true
+is_records _ = false
+
+-- Each part of an entry that a legal history counts has its cause in the step: a count that rose in it.
+-- `last` is the link's last code, and `codes` are those of the rows of a commit answered in the step.
+pub record IsCaused (before after : Counts) (last : ℤ) (codes : List ℤ) (w : World) (e : Entry) : Type 0 where
+  pub rises : Rises before after
+  pub fault : is_fault e.reply ≡ true → before.faults < after.faults
+  pub refusal : is_refusal e.reply ≡ true → before.refusals < after.refusals
+  pub code : (code : ℤ) → e.reply ≡ Some (Broker code) → (code ≡ last) ⊎ Contains codes code
+  pub passed : is_records e.call ≡ true → is_refusal e.reply ≡ false → e.reply ≢ Some Want → All (λ code. (is_zero code || is_passed code) ≡ true) codes
+  pub short : (let t = entry_tally w e in 0 < t.short) → before.refusals < after.refusals
+  pub placed : (let t = entry_tally w e in 0 < t.placed) → before.polls + before.refusals < after.polls + after.refusals
+  pub looked : (let t = entry_tally w e in 0 < t.looks) → before.beats + before.polls + before.refusals < after.beats + after.polls + after.refusals
+
+-- A step's entry has the moment that it was handed, or the shard's last moment where that is greater.
+abbrev pub IsTimed : ℕ → World → Entry → Type 0
+IsTimed now w e = e.moment ≡ max now w.last
+
+-- the places of the Rebalanced event, if one stands there
+abbrev pub placed_in : List Event → Option (List Place)
+placed_in [] = None
+placed_in (Rebalanced places ∷ events) = Some places
+placed_in (_ ∷ events) = placed_in events
+
+abbrev pub has_looked : List Event → Bool
+has_looked [] = false
+has_looked (Looked round ∷ events) = true
+has_looked (_ ∷ events) = has_looked events
+
+-- What is said of a look's Rebalanced: `unfixed` are the partitions of the last answer that were not fixed before.
+pub record IsRebalanced (before after : Counts) (unfixed : Option (List TopicPart)) (c : Consumer) (events : List Event) : Type 0 where
+  pub pumped : Pumped
+  pub pump : IsPumped before after c (IsTrue (has_looked events)) pumped
+  pub places : Rebalances c pumped unfixed (IsTrue (has_looked events)) (placed_in events)
