@@ -112,7 +112,7 @@ takes_since a m b topic part placed keeps t = record {
 }
 
 -- the same topics with as many partitions
-parts_counted : (a b : List Topic) (name : List ℕ) → shape_of (log_of b) ≡ shape_of (log_of a) → length (parts_in b name) ≡ length (parts_in a name)
+pub parts_counted : (a b : List Topic) (name : List ℕ) → shape_of (log_of b) ≡ shape_of (log_of a) → length (parts_in b name) ≡ length (parts_in a name)
 parts_counted [] [] name e = refl
 parts_counted [] (y ∷ ys) name e = absurd (cc e)
 parts_counted (x ∷ xs) [] name e = absurd (cc e)
@@ -195,3 +195,9 @@ some_of a b topic parts n placed are =
 pub on_err : {T E : Type 0} (r : Result T E) (P : Type 0) → P → OnErr r P
 on_err (Ok x) P p = tt
 on_err (Err e) P p = p
+
+pub zip_weaker : {A B : Type 0} (R S : A → B → Type 0) (xs : List A) (ys : List B) → ((x : A) (y : B) → R x y → S x y) → AllZip R xs ys → AllZip S xs ys
+zip_weaker R S [] [] f all = tt
+zip_weaker R S [] (y ∷ ys) f all = absurd all
+zip_weaker R S (x ∷ xs) [] f all = absurd all
+zip_weaker R S (x ∷ xs) (y ∷ ys) f all = (f x y all.0, zip_weaker R S xs ys f all.1)

@@ -46,6 +46,10 @@ first_code (p ∷ placed) = cond (is_zero p.code) (first_code placed) (Some p.co
 abbrev pub IsBased : PartRecords → PartPlaced → Type 0
 IsBased part placed = placed.code ≡ pos 0 → (n : ℕ) × (placed.base ≡ pos n) × (n + length part.rows < 2 ^ 63)
 
+-- the answers name the partitions in the order asked
+abbrev pub IsAsked : PartRecords → PartPlaced → Type 0
+IsAsked part placed = placed.partition ≡ part.partition
+
 -- the log lacks the partition
 abbrev pub Lacks : Log → List ℕ → PartRecords → Type 0
 Lacks log topic part = nat_abs part.partition < length (parts_in log.topics topic) → ⊥

@@ -4,7 +4,7 @@ ghost use Rattle.model.specs.Log.{Log, Keeps, IsLog};
 ghost use Rattle.model.specs.Produced.{NoneAdded};
 ghost use Rattle.model.specs.Fixed.{SameCommits};
 ghost use Rattle.broker_link.specs.Metadata.{IsMetadata};
-ghost use Rattle.broker_link.specs.Produced.{AreParts, IsPlaced, MayBePlaced, IsBased, IsPlainly, first_code};
+ghost use Rattle.broker_link.specs.Produced.{AreParts, IsAsked, IsPlaced, MayBePlaced, IsBased, IsPlainly, first_code};
 ghost use Rattle.broker_link.specs.Causes.{Counts, HasCause, CodeComes};
 
 use gate_io::{Items, Text};
@@ -110,6 +110,7 @@ pub trait Link {
         ensures keeps { tells self.old → Keeps (log self.old) (log self.new) × SameCommits (log self.old) (log self.new) }
         ensures is_log { tells self.old → IsLog (log self.old) → IsLog (log self.new) }
         ensures placed { tells self.old → IfOk result (λ placed. IsPlaced (log self.old) (log self.new) topic.now parts.now placed) }
+        ensures order { IfOk result (λ placed. AllZip IsAsked parts.now placed) }
         ensures based { IfOk result (λ placed. AllZip IsBased parts.now placed) }
         ensures failed { tells self.old → OnErr result (MayBePlaced (log self.old) (log self.new) topic.now parts.now) }
         ensures codes { IfOk result (λ placed. CodeComes (counts self.old) (counts self.new) (first_code placed)) }

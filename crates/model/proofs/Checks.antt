@@ -1,52 +1,110 @@
--- Small facts that the definitions are held to.
-use Rattle.std.proofs.Common.{◌≡◌, ◌%◌, [], ◌∷◌, refl, Some, None}
-use Rattle.std.specs.Prelude.{codes, pos}
+-- Replies as they are written, computed.
+use Rattle.std.proofs.Common.{refl}
 use Rattle.std.specs.Fmt.{digits}
 use Rattle.json.specs.Print.{escape_byte}
-use Rattle.model.specs.World.Format.{Binary}
-use Rattle.model.specs.Forms.Showing.{Text}
-use Rattle.model.specs.Entry.Call.{Produce}
+use Rattle.std.specs.Prelude.{codes, pos, negsuc, ◌≡◌, [], ◌∷◌, Some, None}
+use Rattle.model.specs.World.Edge.{Start}
+use Rattle.model.specs.Entry.Act.{Create, Delete, Subscription, Subscribe, Assignments, Seek, Fixed, Records}
+use Rattle.model.specs.Entry.Question.{Brokers, Topics, OneTopic, Parts, OnePart, EndOffsets}
+use Rattle.model.specs.Entry.Call.{Produce, Ask, Of}
 use Rattle.model.specs.Entry.Placed.{Stored, Failed}
-use Rattle.model.specs.Entry.Reply.{Answers}
-use Rattle.model.specs.Texts.{Response, response_of, broker_text, placed_text, made_text, unread_text}
-use Rattle.model.specs.Texts.Response.{Body, Error}
-use Rattle.model.specs.Produced.{murmur2, partition_of}
+use Rattle.model.specs.Entry.Reply.{Done, Made, Names, Nodes, Offsets, Told, Edged, Listed, Answers, Unread, Refused, Broker, LinkFault}
+use Rattle.model.specs.Readings.{reader, orders, other_orders, place_at, kafka_at, settings_of}
+use Rattle.model.specs.ReadingReplies.{one_part, as_written}
+use Rattle.model.specs.Texts.Response.{Empty, Body, Error}
 
--- the hash of `abc`, and partition 1 of 2
-hash_of_abc : murmur2 (97 ∷ 98 ∷ 99 ∷ []) % 2147483648 ≡ 479470107
-hash_of_abc = refl
-
-place_of_abc : partition_of (Some (97 ∷ 98 ∷ 99 ∷ [])) 0 2 ≡ 1
-place_of_abc = refl
-
--- a key of four bytes and more: Kafka's `21` is -973932308, and `foobar` is -790332482
-hash_of_21 : murmur2 (50 ∷ 49 ∷ []) ≡ 3321034988
-hash_of_21 = refl
-
-hash_of_foobar : murmur2 (102 ∷ 111 ∷ 111 ∷ 98 ∷ 97 ∷ 114 ∷ []) ≡ 3504634814
-hash_of_foobar = refl
-
--- the body of a produce of one record without a key
-abbrev one_stored : Response
-one_stored = response_of [] (record { shows = λ format bytes. Text [] }) Binary (Produce [] (record { key_id = None; value_id = None; records = [] })) (Answers (Stored 0 0 ∷ []))
-
-one_stored_text : one_stored ≡ Body None (codes "{\"offsets\":[{\"partition\":0,\"offset\":0,\"error_code\":null,\"error\":null}],\"key_schema_id\":null,\"value_schema_id\":null}")
+pub stored_text : as_written (Produce (codes "orders") (record { key_id = None; value_id = None; records = [] })) (Answers (Stored 0 0 ∷ [])) ≡ Body None (codes "{\"offsets\":[{\"partition\":0,\"offset\":0,\"error_code\":null,\"error\":null}],\"key_schema_id\":null,\"value_schema_id\":null}")
 unfolding digits escape_byte
-one_stored_text = refl
+stored_text = refl
 
-retriable_code_6 : broker_text (pos 6) ≡ Error 50003 (codes "{\"error_code\":50003,\"message\":\"Kafka retriable error: broker code 6.\"}")
+pub failed_text : as_written (Produce (codes "orders") (record { key_id = None; value_id = Some 1; records = [] })) (Answers (Failed 0 (pos 10) ∷ Failed 1 (pos 6) ∷ [])) ≡ Body None (codes "{\"offsets\":[{\"partition\":0,\"offset\":null,\"error_code\":1,\"error\":\"broker code 10\"},{\"partition\":1,\"offset\":null,\"error_code\":2,\"error\":\"broker code 6\"}],\"key_schema_id\":null,\"value_schema_id\":1}")
 unfolding digits escape_byte
-retriable_code_6 = refl
+failed_text = refl
 
-failed_record_text : placed_text (Failed 0 (pos 10)) ≡ codes "{\"partition\":0,\"offset\":null,\"error_code\":1,\"error\":\"broker code 10\"}"
+pub brokers_text : as_written (Ask Brokers) (Nodes (pos 1 ∷ [])) ≡ Body None (codes "{\"brokers\":[1]}")
 unfolding digits escape_byte
-failed_record_text = refl
+brokers_text = refl
 
-made_instance_text : made_text (codes "localhost:8082") (record { group = codes "g"; instance = codes "c1" }) ≡ codes "{\"instance_id\":\"c1\",\"base_uri\":\"http://localhost:8082/consumers/g/instances/c1\"}"
+pub topics_text : as_written (Ask Topics) (Names (codes "orders" ∷ [])) ≡ Body None (codes "[\"orders\"]")
 unfolding digits escape_byte
-made_instance_text = refl
+topics_text = refl
 
-unread_row_text : unread_text (record { at = record { topic = codes "orders"; partition = 0 }; row = record { offset = 0; key = None; value = None } }) 2
-    ≡ Error 50002 (codes "{\"error_code\":50002,\"message\":\"Record does not read: topic orders, partition 0, offset 0, reason 2.\"}")
+pub part_text : as_written (Ask (OnePart orders)) (Told (one_part ∷ [])) ≡ Body None (codes "{\"partition\":0,\"leader\":1,\"replicas\":[{\"broker\":1,\"leader\":true,\"in_sync\":true}]}")
 unfolding digits escape_byte
-unread_row_text = refl
+part_text = refl
+
+pub parts_text : as_written (Ask (Parts (codes "orders"))) (Told (one_part ∷ [])) ≡ Body None (codes "[{\"partition\":0,\"leader\":1,\"replicas\":[{\"broker\":1,\"leader\":true,\"in_sync\":true}]}]")
+unfolding digits escape_byte
+parts_text = refl
+
+pub topic_text : as_written (Ask (OneTopic (codes "orders"))) (Told (one_part ∷ [])) ≡ Body None (codes "{\"name\":\"orders\",\"configs\":{},\"partitions\":[{\"partition\":0,\"leader\":1,\"replicas\":[{\"broker\":1,\"leader\":true,\"in_sync\":true}]}]}")
+unfolding digits escape_byte
+topic_text = refl
+
+pub offsets_text : as_written (Ask (EndOffsets orders)) (Edged 0 3) ≡ Body None (codes "{\"beginning_offset\":0,\"end_offset\":3}")
+unfolding digits escape_byte
+offsets_text = refl
+
+pub made_text : as_written (Of reader (Create (settings_of Start))) Made ≡ Body None (codes "{\"instance_id\":\"c1\",\"base_uri\":\"http://localhost:8082/consumers/g/instances/c1\"}")
+unfolding digits escape_byte
+made_text = refl
+
+pub deleted_text : as_written (Of reader Delete) Done ≡ Empty
+unfolding digits escape_byte
+deleted_text = refl
+
+pub subscribed_text : as_written (Of reader Subscription) (Names (codes "orders" ∷ [])) ≡ Body None (codes "{\"topics\":[\"orders\"]}")
+unfolding digits escape_byte
+subscribed_text = refl
+
+pub listed_text : as_written (Of reader Assignments) (Listed (orders ∷ [])) ≡ Body None (codes "{\"partitions\":[{\"topic\":\"orders\",\"partition\":0}]}")
+unfolding digits escape_byte
+listed_text = refl
+
+pub committed_text : as_written (Of reader (Fixed (orders ∷ other_orders ∷ []))) (Offsets (place_at 1 ∷ record { at = other_orders; position = 1 } ∷ [])) ≡ Body None (codes "{\"offsets\":[{\"topic\":\"orders\",\"partition\":0,\"offset\":1,\"metadata\":\"\"},{\"topic\":\"orders\",\"partition\":1,\"offset\":1,\"metadata\":\"\"}]}")
+unfolding digits escape_byte
+committed_text = refl
+
+pub unread_text : as_written (Of reader (Records [] None None)) (Unread (record { at = orders; row = kafka_at 0 }) 2) ≡ Error 50002 (codes "{\"error_code\":50002,\"message\":\"Record does not read: topic orders, partition 0, offset 0, reason 2.\"}")
+unfolding digits escape_byte
+unread_text = refl
+
+pub retriable_text : as_written (Ask Topics) (Broker (pos 6)) ≡ Error 50003 (codes "{\"error_code\":50003,\"message\":\"Kafka retriable error: broker code 6.\"}")
+unfolding digits escape_byte
+retriable_text = refl
+
+pub another_code_text : as_written (Ask Topics) (Broker (negsuc 0)) ≡ Error 50002 (codes "{\"error_code\":50002,\"message\":\"Kafka error: broker code -1.\"}")
+unfolding digits escape_byte
+another_code_text = refl
+
+pub link_text : as_written (Ask Topics) LinkFault ≡ Error 50003 (codes "{\"error_code\":50003,\"message\":\"Kafka retriable error: link.\"}")
+unfolding digits escape_byte
+link_text = refl
+
+pub no_topic_text : as_written (Ask Topics) (Refused 40401) ≡ Error 40401 (codes "{\"error_code\":40401,\"message\":\"Topic not found.\"}")
+unfolding digits escape_byte
+no_topic_text = refl
+
+pub no_partition_text : as_written (Ask Topics) (Refused 40402) ≡ Error 40402 (codes "{\"error_code\":40402,\"message\":\"Partition not found.\"}")
+unfolding digits escape_byte
+no_partition_text = refl
+
+pub no_instance_text : as_written (Of reader Delete) (Refused 40403) ≡ Error 40403 (codes "{\"error_code\":40403,\"message\":\"Consumer instance not found.\"}")
+unfolding digits escape_byte
+no_instance_text = refl
+
+pub format_text : as_written (Of reader (Records [] None None)) (Refused 40601) ≡ Error 40601 (codes "{\"error_code\":40601,\"message\":\"Consumer format does not match the Accept header.\"}")
+unfolding digits escape_byte
+format_text = refl
+
+pub exists_text : as_written (Of reader (Create (settings_of Start))) (Refused 40902) ≡ Error 40902 (codes "{\"error_code\":40902,\"message\":\"Consumer instance with the specified name already exists.\"}")
+unfolding digits escape_byte
+exists_text = refl
+
+pub exclusive_text : as_written (Of reader (Subscribe [])) (Refused 40903) ≡ Error 40903 (codes "{\"error_code\":40903,\"message\":\"Subscription to topics, partitions and pattern are mutually exclusive.\"}")
+unfolding digits escape_byte
+exclusive_text = refl
+
+pub unassigned_text : as_written (Of reader (Seek [])) (Refused 40990) ≡ Error 40990 (codes "{\"error_code\":40990,\"message\":\"Partition is not assigned to this instance.\"}")
+unfolding digits escape_byte
+unassigned_text = refl

@@ -8,6 +8,7 @@ use Rattle.std.proofs.lemmas.List.Elements.{All-head}
 use Rattle.model.specs.Look.{AtHand}
 use Rattle.model.specs.Walk.{Place, Lot}
 use Rattle.model.specs.World.{Key, is_key, Consumer, IsInOrder, IsLow, IsConsumer, fresh, nobody}
+use Rattle.model.specs.World.Format.{Binary}
 use Rattle.model.specs.Entry.{Act, Event, Reply}
 use Rattle.model.specs.Entry.Act.{Create, Assign, Records}
 use Rattle.model.specs.Entry.Event.{Looked}
@@ -17,7 +18,7 @@ use Rattle.model.specs.Legal.{Counts, Legal, no_tally}
 use Rattle.model.specs.Example.{turn, orders, row, one_row, reader, settings, shown_item, ready, behind, with_one, entry, history}
 use Rattle.model.proofs.Stretches.{keeps_itself}
 
-is_log : IsLog one_row
+pub is_log : IsLog one_row
 is_log = record { names = λ i j d lt lt'. absurd (omega arith); part = λ at. part at (bytes_eq (111 ∷ []) at.topic) refl at.partition refl }
   where
     empty : IsPart (record { start = 0; end = 0; rows = [] })
@@ -103,7 +104,7 @@ assigned = (
       have = refl;
       places = place0 ∷ [];
       set = record { same = λ at. (λ h. h, λ h. h); order = in_order_one place0 };
-      fixes = (one_row, keeps_itself one_row, refl, inr (refl, λ none. omega arith, refl), keeps_itself one_row);
+      fixes = (one_row, (is_log, keeps_itself one_row), refl, inr (refl, λ none. omega arith, refl), keeps_itself one_row);
       says = refl;
       left = refl;
     })),
@@ -120,7 +121,7 @@ at_hand = record { whose = refl; first = first; none = λ e. absurd (cc (All-hea
     first zero d lt = ([], refl)
     first (suc k) d lt = absurd (omega arith)
 
-looked : Acts reader 0 turn (Records [] None None) (Some ready) one_row (Looked 0 ∷ []) (Some (Shown (shown_item ∷ []))) one_row (Some behind)
+looked : Acts reader 0 turn (Records [] None None) (Some ready) one_row (Looked 0 ∷ []) (Some (Shown Binary (shown_item ∷ []))) one_row (Some behind)
 looked = inr (
   refl,
   record {
@@ -134,6 +135,7 @@ looked = inr (
     answered = λ k e some. absurd (cc some);
     due = λ due none. absurd (cc due);
     middle = one_row;
+    log = is_log;
     places = keeps_itself one_row;
     set = keeps_itself one_row;
     ends = inr (record {
@@ -165,7 +167,7 @@ history_is_legal counts = record {
         (
           no_tally,
           refl,
-          (one_row, with_one behind, own_step (Records [] None None) (Looked 0 ∷ []) (Shown (shown_item ∷ [])) ready behind (record { order = in_order_one (record { at = orders; position = 1 }); low = low_one 1 (omega arith); names = λ i j d lt lt'. absurd (omega arith) }) looked, (no_tally, refl, (refl, refl, refl))),
+          (one_row, with_one behind, own_step (Records [] None None) (Looked 0 ∷ []) (Shown Binary (shown_item ∷ [])) ready behind (record { order = in_order_one (record { at = orders; position = 1 }); low = low_one 1 (omega arith); names = λ i j d lt lt'. absurd (omega arith) }) looked, (no_tally, refl, (refl, refl, refl))),
         ),
       ),
     ),

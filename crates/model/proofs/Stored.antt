@@ -151,11 +151,15 @@ chosen_there n k (x ∷ records) zero g e =
     let same : x ≡ g = cc e in
     record { payload = record { partition = or_named x.partition (partition_of x.key k n); key = x.key; value = x.value }; there = refl; key = ap (λ y. y.key) same; value = ap (λ y. y.value) same }
 
-stored_stands : (idle : ℕ) (w : World) (a : Log) (e : Entry) (b : Log) (w2 : World) (at : TopicPart) (row : Row)
-    → Step idle w a e b w2 → HasStored e at row → Contains (part_at b at).rows row
-stored_stands idle w a e b w2 at row step stored = go step.does
+-- the row stands in `b`, at or above the end that its partition had in `a`
+abbrev pub IsNew : Log → Log → TopicPart → Row → Type 0
+IsNew a b at row = Contains (part_at b at).rows row × ((part_at a at).end ≤ row.offset)
+
+pub stored_anew : (idle : ℕ) (w : World) (a : Log) (e : Entry) (b : Log) (w2 : World) (at : TopicPart) (row : Row)
+    → Step idle w a e b w2 → HasStored e at row → IsNew a b at row
+stored_anew idle w a e b w2 at row step stored = go step.does
   where
-    produced : IsProduced a b at.topic stored.batch e.reply → Contains (part_at b at).rows row
+    produced : IsProduced a b at.topic stored.batch e.reply → IsNew a b at row
     produced r =
         let same : stored.answers ≡ r.answers = cc (stored.reply, r.says) in
         let d = r.answered in
@@ -169,10 +173,12 @@ stored_stands idle w a e b w2 at row step stored = go step.does
         let rows : record { offset = row.offset; key = p.key; value = p.value } ≡ row = λ i. record { offset = row.offset; key = (c.key ∙ stored.key) i; value = (c.value ∙ stored.value) i } in
         let there : Contains (numbered at.topic d.base [] payloads) (record { at = at; row = row }) =
         subst (λ (r : Row). Contains (numbered at.topic d.base [] payloads) (record { at = at; row = r })) rows found.0 in
-        let places = d.places in
-        All-contains (λ (item : Item). is_zero (d.code item.at.partition) ≡ true → Contains (part_at b item.at).rows item.row) (numbered at.topic d.base [] payloads) (record { at = at; row = row }) places.stand there found.1
+        let places = d.places in (
+          All-contains (λ (item : Item). is_zero (d.code item.at.partition) ≡ true → Contains (part_at b item.at).rows item.row) (numbered at.topic d.base [] payloads) (record { at = at; row = row }) places.stand there found.1,
+          All-contains (λ (item : Item). is_zero (d.code item.at.partition) ≡ true → (part_at a item.at).end ≤ item.row.offset) (numbered at.topic d.base [] payloads) (record { at = at; row = row }) places.behind there found.1,
+        )
 
-    ends : ProduceEnds a b at.topic stored.batch e.reply → Contains (part_at b at).rows row
+    ends : ProduceEnds a b at.topic stored.batch e.reply → IsNew a b at row
     ends (inl r) = produced r
     ends (inr (inl r)) = absurd (cc (stored.reply, r.2))
     ends (inr (inr (inl r))) = absurd (cc (stored.reply, r.3))
@@ -180,7 +186,7 @@ stored_stands idle w a e b w2 at row step stored = go step.does
         let same : r.why ≡ Answers stored.answers = cc (stored.reply, r.says) in
         absurd (subst IsLinks same r.links)
 
-    go : Whole idle w a e b w2 ⊎ Starved w a e b w2 → Contains (part_at b at).rows row
+    go : Whole idle w a e b w2 ⊎ Starved w a e b w2 → IsNew a b at row
     go (inl whole) =
         let does : Does e.moment e.turn (Some (Produce at.topic stored.batch)) a e.events e.reply b (left e.expired w) w2.at = subst (λ call. Does e.moment e.turn call a e.events e.reply b (left e.expired w) w2.at) stored.call whole.does in
         ends does.1
@@ -199,7 +205,7 @@ stored_is_shown idle first before e between f after l w n run at row stored key 
     let b : Log = last.0 in
     let opens : Step idle one.world one.log e m v = rest.2 in
     let closes : Step idle two.world two.log f b last.1 = last.2 in
-    let r : Contains (part_at b at).rows row = kept_row two.log b at row closes.keeps (kept_row m two.log at row (run_keeps idle v m between two.log two.world two.tally two.run) (stored_stands idle one.world one.log e m v at row opens stored)) in
+    let r : Contains (part_at b at).rows row = kept_row two.log b at row closes.keeps (kept_row m two.log at row (run_keeps idle v m between two.log two.world two.tally two.run) (let new = stored_anew idle one.world one.log e m v at row opens stored in new.0)) in
     let s : Contains (part_at b at).rows item.row = subst (λ x. Contains (part_at b x).rows item.row) there (shown_stands idle key two.world two.log f b last.1 item closes shown) in
     let log = closes.log in
     let part = log.part at in

@@ -1,10 +1,12 @@
 -- What a look does to the rows that a consumer has at hand, as Apache Kafka's consumer keeps fetched records between polls.
-use Rattle.std.specs.Prelude.{ℕ, ◌+◌, ◌*◌, ◌<◌, ◌≤◌, ◌≡◌, ◌⊎◌, Bool, false, cond, List, [], ◌∷◌, ◌++◌, length, sum_by}
-use Rattle.model.specs.Log.{TopicPart, is_at, Row}
-use Rattle.model.specs.Walk.{Lot, Item, rows_at, size_of}
-use Rattle.model.specs.World.{Consumer}
+use Rattle.std.specs.Prelude.{ℕ, ◌+◌, ◌*◌, ◌<◌, ◌≤◌, ◌≡◌, ◌⊎◌, Bool, false, cond, List, [], ◌∷◌, ◌++◌, map, length, sum_by, All, Contains, None}
+use mathlib.Core.List.{IsPrefix}
+use Rattle.model.specs.Log.{TopicPart, is_at, Row, Log, from}
+use Rattle.model.specs.Walk.{Place, Lot, Item, rows_at, size_of}
+use Rattle.model.specs.World.{Consumer, position_in}
 use Rattle.model.specs.World.Mode.{Assigned}
-use Rattle.model.specs.Entry.{Event}
+use Rattle.model.specs.Entry.{Act, Event}
+use Rattle.model.specs.Entry.Act.{Assign, Seek, SeekEdge, Subscribe, Unsubscribe}
 use Rattle.model.specs.Entry.Event.{Rebalanced, Reset}
 
 -- the rows buffered of a partition
@@ -12,6 +14,7 @@ abbrev pub buffered_at : TopicPart → List Lot → List Row
 buffered_at at [] = []
 buffered_at at (lot ∷ lots) = (let place = lot.place in cond (is_at at place.at) lot.rows (buffered_at at lots))
 
+-- no row buffered of that partition
 abbrev pub without : TopicPart → List Lot → List Lot
 without at [] = []
 without at (lot ∷ lots) = (let place = lot.place in cond (is_at at place.at) (record { place = lot.place; rows = [] } ∷ without at lots) (lot ∷ without at lots))
@@ -23,9 +26,11 @@ left_by (Rebalanced places ∷ events) lots = left_by events []
 left_by (Reset place ∷ events) lots = left_by events (without place.at lots)
 left_by (_ ∷ events) lots = left_by events lots
 
+-- key and value bytes of the rows buffered
 abbrev pub bytes_at_hand : List Lot → ℕ
 bytes_at_hand lots = sum_by (λ lot. sum_by size_of lot.rows) lots
 
+-- how many rows are buffered
 abbrev pub rows_at_hand : List Lot → ℕ
 rows_at_hand lots = sum_by (λ lot. length lot.rows) lots
 
@@ -36,10 +41,25 @@ pub record Fetches : Type 0 where
   pub fetched : ℕ
   pub sent : ℕ
 
+-- 1 where a Reset stands among the events: one more fetch is made then
 abbrev pub resets_in : List Event → ℕ
 resets_in [] = 0
 resets_in (Reset place ∷ events) = 1
 resets_in (_ ∷ events) = resets_in events
+
+-- the rows buffered of each assigned partition begin those of the log from its position on
+pub record AreBuffered (log : Log) (places : List Place) (lots : List Lot) : Type 0 where
+  pub whose : map (λ lot. lot.place) lots ≡ places
+  pub first : All (λ lot. IsPrefix lot.rows (from log lot.place.at lot.place.position)) lots
+
+-- An accepted call leaves no row buffered of a partition that it moves or takes away. `before` are the places assigned before it.
+abbrev pub IsCleared : (before : List Place) → Act → (after : List Lot) → Type 0
+IsCleared before (Assign ats) after = (at : TopicPart) → ((Contains ats at → ⊥) ⊎ (position_in before at ≡ None)) → buffered_at at after ≡ []
+IsCleared before (Seek news) after = All (λ place. buffered_at place.at after ≡ []) news
+IsCleared before (SeekEdge edge ats) after = All (λ at. buffered_at at after ≡ []) ats
+IsCleared before (Subscribe names) after = rows_at_hand after ≡ 0
+IsCleared before Unsubscribe after = rows_at_hand after ≡ 0
+IsCleared before _ after = Unit {0}
 
 -- `before` and `after` are the rows at hand, `shown` the rows of the reply, `more` those that were fetched.
 pub record IsBuffered (before after : List Lot) (events : List Event) (shown : List Item) : Type 0 where

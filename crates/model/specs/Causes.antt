@@ -1,6 +1,6 @@
--- What an entry's events and its reply have as their causes in the step's link calls.
-use Rattle.std.specs.Prelude.{ℕ, ℤ, ◌+◌, ◌<◌, ◌≤◌, ◌≡◌, ◌≢◌, ◌⊎◌, ◌↔◌, max, Bool, true, false, List, [], ◌∷◌, map, Contains, IsTrue, Option, Some, None, ◌||◌, All}
-use Rattle.model.specs.Log.{TopicPart}
+-- What an entry's events and its reply have as their causes in the step's link calls (Apache Kafka protocol guide, JoinGroup to Heartbeat).
+use Rattle.std.specs.Prelude.{ℕ, ℤ, ◌+◌, ◌<◌, ◌≤◌, ◌≡◌, ◌≢◌, ◌⊎◌, ◌↔◌, max, Bool, true, false, List, [], ◌∷◌, map, Contains, IsTrue, Option, Some, None, ◌||◌, All, ◌++◌}
+use Rattle.model.specs.Log.{TopicPart, Log}
 use Rattle.model.specs.Walk.{Place}
 use Rattle.model.specs.World.{Consumer, World, IsInOrder}
 use Rattle.model.specs.World.Mode.{ByTopics}
@@ -10,7 +10,8 @@ use Rattle.model.specs.Entry.Call.{Of}
 use Rattle.model.specs.Entry.Event.{Rebalanced, Looked}
 use Rattle.model.specs.Entry.Reply.{Broker, Want}
 use Rattle.model.specs.Look.{is_listed, is_passed}
-use Rattle.model.specs.Legal.{Counts, entry_tally, is_fault, is_refusal}
+use Rattle.model.specs.Legal.{Counts, entry_tally, is_fault, is_refusal, Legal}
+use Rattle.model.specs.Step.{Step}
 
 -- what came of the pump of a look; `Unpumped` where none was made
 pub data Pumped : Type 0 where
@@ -50,12 +51,14 @@ pub record IsPumped (before after : Counts) (c : Consumer) (reached : Type 0) (p
   pub lost : pumped ≡ Lost → before.refusals < after.refusals
   pub shared : (ats : List TopicPart) → pumped ≡ Shared ats → before.polls < after.polls
 
+-- no count of the link falls
 pub record Rises (before after : Counts) : Type 0 where
   pub faults : before.faults ≤ after.faults
   pub refusals : before.refusals ≤ after.refusals
   pub polls : before.polls ≤ after.polls
   pub beats : before.beats ≤ after.beats
 
+-- a Records call
 abbrev pub is_records : Option Call → Bool
 is_records (Some (Of key (Records formats timeout bound))) = true
 is_records _ = false
@@ -82,6 +85,7 @@ placed_in [] = None
 placed_in (Rebalanced places ∷ events) = Some places
 placed_in (_ ∷ events) = placed_in events
 
+-- a Looked stands among the events
 abbrev pub has_looked : List Event → Bool
 has_looked [] = false
 has_looked (Looked round ∷ events) = true
@@ -92,3 +96,10 @@ pub record IsRebalanced (before after : Counts) (unfixed : Option (List TopicPar
   pub pumped : Pumped
   pub pump : IsPumped before after c (IsTrue (has_looked events)) pumped
   pub places : Rebalances c pumped unfixed (IsTrue (has_looked events)) (placed_in events)
+
+-- a legal history goes on by a step whose events and reply have their causes in what the counts rose by
+abbrev pub CausesPay : Type 0
+CausesPay =
+    (idle : ℕ) (counts : Counts) (history : List Entry) (w : World) (l : Log) (e : Entry) (l2 : Log) (w2 : World) (counts2 : Counts) (last : ℤ) (codes : List ℤ)
+    → Legal idle counts history w l → Step idle w l e l2 w2
+    → IsCaused counts counts2 last codes w e → Legal idle counts2 (history ++ e ∷ []) w2 l2

@@ -1,4 +1,4 @@
--- What stored bytes are shown as, and why a row doesn't read.
+-- What stored bytes are shown as in the embedded formats of the Confluent REST Proxy API v2, and why a row doesn't read.
 use Rattle.std.specs.Prelude.{ℕ, ◌≡◌, List, Option, Some, None, codes}
 use Rattle.model.specs.Log.{Row}
 use Rattle.model.specs.World.{Format}
@@ -13,6 +13,7 @@ pub data Showing : Type 0 where
 pub record Forms : Type 0 where
   pub shows : Format → Option (List ℕ) → Showing
 
+-- the first reason of two
 abbrev pub or_reason : Showing → Showing → Option ℕ
 or_reason (Unshown reason) other = Some reason
 or_reason (Text text) (Unshown reason) = Some reason

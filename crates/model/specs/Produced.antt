@@ -1,41 +1,12 @@
--- What a produce leaves in the log, and what it answers.
-use Rattle.std.specs.Prelude.{ℕ, ℤ, ◌+◌, ◌*◌, ◌/◌, ◌%◌, ◌<◌, ◌≤◌, ◌≡◌, ◌==◌, true, cond, bit_xor, List, [], ◌∷◌, ◌++◌, map, length, All, Contains, count_by, Option, Some, None}
+-- What a produce leaves in the log, and what it answers: Apache Kafka protocol guide, Produce.
+use Rattle.std.specs.Prelude.{ℕ, ℤ, ◌+◌, ◌<◌, ◌≤◌, ◌≡◌, ◌==◌, true, cond, List, [], ◌∷◌, ◌++◌, map, All, Contains, count_by, Option, Some, None}
+pub use Rattle.model.specs.Hashes.{murmur2, partition_of}
 use Rattle.model.specs.Log.{Log, part_at, rows_in_all}
 use Rattle.model.specs.Walk.{Item}
 use Rattle.model.specs.Entry.{Given, Payload, Placed, is_zero}
 use Rattle.model.specs.Entry.Placed.{Stored, Failed}
 
--- murmur2 with seed 9747b28c, as Apache Kafka's default partitioner takes it: all modulo 2^32
-abbrev pub times : ℕ → ℕ → ℕ
-times x y = (x * y) % 4294967296
-
-abbrev pub stirred : ℕ → ℕ
-stirred k = times (bit_xor k (k / 16777216)) 1540483477
-
-abbrev pub mixed : ℕ → ℕ
-mixed k = stirred (times k 1540483477)
-
-abbrev pub murmur_on : ℕ → List ℕ → ℕ
-murmur_on h [] = h
-murmur_on h (a ∷ []) = times (bit_xor h a) 1540483477
-murmur_on h (a ∷ b ∷ []) = times (bit_xor (bit_xor h (256 * b)) a) 1540483477
-murmur_on h (a ∷ b ∷ c ∷ []) = times (bit_xor (bit_xor (bit_xor h (65536 * c)) (256 * b)) a) 1540483477
-murmur_on h (a ∷ b ∷ c ∷ d ∷ rest) = murmur_on (bit_xor (times h 1540483477) (mixed (a + 256 * b + 65536 * c + 16777216 * d))) rest
-
-abbrev pub ended : ℕ → ℕ
-ended h = bit_xor h (h / 32768)
-
-abbrev pub murmur_end : ℕ → ℕ
-murmur_end h = ended (times (bit_xor h (h / 8192)) 1540483477)
-
-abbrev pub murmur2 : List ℕ → ℕ
-murmur2 key = murmur_end (murmur_on (bit_xor 2538058380 (length key % 4294967296)) key)
-
--- the partition of a record without one: by its key, else by its index in the request
-abbrev pub partition_of : Option (List ℕ) → (index n : ℕ) → ℕ
-partition_of None index n = index % n
-partition_of (Some key) index n = (murmur2 key % 2147483648) % n
-
+-- the partition that the request names, else another
 abbrev pub or_named : Option ℕ → ℕ → ℕ
 or_named None other = other
 or_named (Some partition) other = partition
@@ -56,6 +27,7 @@ numbered topic base before (p ∷ payloads) =
     record { at = record { topic = topic; partition = p.partition }; row = record { offset = base p.partition + count_by (λ q. q.partition == p.partition) before; key = p.key; value = p.value } }
     ∷ numbered topic base (before ++ p ∷ []) payloads
 
+-- a record's answer: its partition and offset, or its partition's code
 abbrev pub answer_of : (ℕ → ℤ) → Item → Placed
 answer_of code item = cond (is_zero (code item.at.partition)) (Stored item.at.partition item.row.offset) (Failed item.at.partition (code item.at.partition))
 
@@ -65,6 +37,7 @@ pub record Places (a b : Log) (code : ℕ → ℤ) (items : List Item) : Type 0 
   pub behind : All (λ item. is_zero (code item.at.partition) ≡ true → (part_at a item.at).end ≤ item.row.offset) items
   pub added : rows_in_all b + a.others ≡ rows_in_all a + b.others + count_by (λ item. is_zero (code item.at.partition)) items
 
+-- each record was answered by where it stands, or by its partition's code
 pub record Answered (a b : Log) (topic : List ℕ) (payloads : List Payload) (answers : List Placed) : Type 0 where
   pub base : ℕ → ℕ
   pub code : ℕ → ℤ
@@ -77,5 +50,6 @@ pub record Unknown (a b : Log) (topic : List ℕ) (payloads : List Payload) : Ty
   pub code : ℕ → ℤ
   pub places : Places a b code (numbered topic base [] payloads)
 
+-- no row was added but those of others
 abbrev pub NoneAdded : Log → Log → Type 0
 NoneAdded a b = rows_in_all b + a.others ≡ rows_in_all a + b.others

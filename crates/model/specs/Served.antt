@@ -1,8 +1,9 @@
--- Which entries serve which calls, each once and in order.
-use Rattle.std.specs.Prelude.{ℕ, ◌+◌, ◌≡◌, ◌==◌, List, [], ◌∷◌, ◌++◌, filter, ◌&&◌, cond, is_some, is_none, true, Option, Some, None}
+-- Which entries serve which calls, each once and in order: a caller's part of a history (Herlihy and Wing's linearizability).
+use Rattle.std.specs.Prelude.{ℕ, ◌+◌, ◌≡◌, ◌==◌, List, [], ◌∷◌, ◌++◌, filter, ◌&&◌, cond, is_some, is_none, true, Option, Some, None, map, length}
 use Rattle.model.specs.Entry.{Call, Event, Reply, Entry}
 use Rattle.model.specs.Entry.Event.{Looked}
 use Rattle.model.specs.Texts.{Response}
+use Rattle.model.specs.Asked.{numbers}
 
 -- the last event is this look
 abbrev pub EndsIn : List Event → ℕ → Type 0
@@ -79,3 +80,30 @@ waits_of caller n (e ∷ entries) = cond ((e.caller == caller) && is_some e.call
 abbrev pub IsPaced : List Entry → List Entry → Type 0
 IsPaced before [] = Unit {0}
 IsPaced before (e ∷ entries) = (is_some e.call ≡ true → (let t = e.turn in t.round) ≡ waits_of e.caller 0 before) × IsPaced (before ++ e ∷ []) entries
+
+-- entries that serve calls and then one more call serve all of these calls, each once
+abbrev pub ServingGoesOn : Type 0
+ServingGoesOn =
+    (calls : List Call) (replies : List Reply) (entries : List Entry) (call : Call) (reply : Reply) (own : List Entry)
+    → ServesAll calls replies entries → Serves call reply own → ServesAll (calls ++ call ∷ []) (replies ++ reply ∷ []) (entries ++ own)
+
+-- the entries that have a reply
+abbrev pub replied : List Entry → List Entry
+replied entries = filter (λ e. is_some e.reply) entries
+
+-- The entries with a reply are of the calls served, one each and in order, with their replies.
+abbrev pub CallsAreAnsweredOnce : Type 0
+CallsAreAnsweredOnce =
+    (calls : List Call) (replies : List Reply) (entries : List Entry) → ServesAll calls replies entries
+    → (map (λ (e : Entry). e.call) (replied entries) ≡ map Some calls) × (map (λ (e : Entry). e.reply) (replied entries) ≡ map Some replies)
+
+-- the rounds of the entries of one call are 0, 1 and so on
+abbrev pub RoundsCountUp : Type 0
+RoundsCountUp =
+    (call : Call) (reply : Reply) (own : List Entry) → Serves call reply own
+    → map (λ (e : Entry). (let t = e.turn in t.round)) own ≡ numbers 0 (length own)
+
+-- what a caller has in a history that goes on is what it had, and the new entries that are its own
+abbrev pub MineGrows : Type 0
+MineGrows =
+    (caller : ℕ) (history more : List Entry) → mine caller (history ++ more) ≡ mine caller history ++ mine caller more

@@ -1,4 +1,4 @@
--- Consumers, and the world of a shard.
+-- Consumers of the Confluent REST Proxy API v2, and the world of a shard.
 use Rattle.std.specs.List.{list_any}
 use Rattle.std.specs.Ordering.{is_lt, nat_cmp}
 use Rattle.std.specs.Cmp.Lexicographic.{slice_cmp}
@@ -11,18 +11,23 @@ pub record Key : Type 0 where
   pub group : List ℕ
   pub instance : List ℕ
 
+-- the same consumer
 abbrev pub is_key : Key → Key → Bool
 is_key x y = bytes_eq x.group y.group && bytes_eq x.instance y.instance
 
+-- how keys and values are shown: `format` of an instance
 pub data Format : Type 0 where
   Binary Json Avro : Format
 
+-- the start or the end of a partition: `auto.offset.reset` earliest or latest
 pub data Edge : Type 0 where
   Start End : Edge
 
+-- nothing, a subscription to topics, or partitions that were assigned
 pub data Mode : Type 0 where
   Unset ByTopics Assigned : Mode
 
+-- format, auto.offset.reset, auto.commit.enable, fetch.min.bytes and consumer.request.timeout.ms of an instance
 pub record Settings : Type 0 where
   pub format : Format
   pub reset : Edge
@@ -30,6 +35,7 @@ pub record Settings : Type 0 where
   pub min_bytes : ℕ
   pub timeout_ms : ℕ
 
+-- `topics` is the subscription, `rotation` the place in the assignment at which the next walk begins; `unsaved` says that an auto commit has something to save
 pub record Consumer : Type 0 where
   pub settings : Settings
   pub mode : Mode
@@ -74,6 +80,7 @@ pub record World : Type 0 where
   pub at : Key → Option Consumer
   pub last : ℕ
 
+-- no consumer, at moment 0
 abbrev pub nobody : World
 nobody = record { at = λ key. None; last = 0 }
 
@@ -90,6 +97,7 @@ abbrev pub position_in : List Place → TopicPart → Option ℕ
 position_in [] at = None
 position_in (place ∷ places) at = cond (is_at at place.at) (Some place.position) (position_in places at)
 
+-- the position of a consumer there, if it is live and the partition is assigned
 abbrev pub position_of : Option Consumer → TopicPart → Option ℕ
 position_of None at = None
 position_of (Some c) at = position_in c.assignment at
@@ -99,6 +107,7 @@ abbrev pub with_position : Place → List Place → List Place
 with_position new [] = []
 with_position new (place ∷ places) = cond (is_at new.at place.at) new place ∷ with_position new places
 
+-- each partition once, at its first place; `before` are those that stood before
 abbrev pub once_first : List Place → List Place → List Place
 once_first before [] = []
 once_first before (row ∷ rows) = cond (list_any (λ other. is_at row.at other.at) before) (once_first before rows) (row ∷ once_first (row ∷ before) rows)
@@ -108,6 +117,7 @@ abbrev pub once_parts : List TopicPart → List TopicPart → List TopicPart
 once_parts before [] = []
 once_parts before (at ∷ ats) = cond (list_any (is_at at) before) (once_parts before ats) (at ∷ once_parts (at ∷ before) ats)
 
+-- positions set in turn, so the last of a repeat counts
 abbrev pub with_positions : List Place → List Place → List Place
 with_positions [] places = places
 with_positions (new ∷ news) places = with_positions news (with_position new places)
@@ -126,6 +136,7 @@ abbrev pub place_behind : TopicPart → List Place → ℕ
 place_behind at [] = 0
 place_behind at (place ∷ places) = cond (is_at at place.at) 1 (place_behind at places + 1)
 
+-- the partition of the last item
 abbrev pub last_at : List Item → Option TopicPart
 last_at [] = None
 last_at (item ∷ []) = Some item.at

@@ -1,0 +1,83 @@
+-- What came of each request of a connection, over the code's entries: each call once, in the order of the requests (a caller's part of a linearizable history).
+use Rattle.std.specs.Prelude.{ℕ, ◌+◌, ◌≡◌, ◌==◌, ◌⊎◌, filter, List, [], ◌∷◌, ◌++◌, Option, Some, None}
+use Rattle.std.proofs.Common.{inr}
+use Rattle.model.specs.World.{Key}
+use Rattle.model.specs.Entry.{Call, Event}
+use Rattle.model.specs.Entry.Event.{Looked}
+use Rattle.model.specs.Texts.{Response}
+use Rattle.model.specs.Noted.{Noted}
+
+-- a request's call entered the history and was answered so, or the request was answered without it: its reading or `prepare` refused it, or memory was wanting before its turn
+pub data Handled : Type 0 where
+  Entered : Call → Response → Handled
+  Stayed : Response → Handled
+
+-- what the request is answered
+abbrev pub answer_to : Handled → Response
+answer_to (Entered call said) = said
+answer_to (Stayed said) = said
+
+-- entries of one call without a reply, each with the look of its round as the last event, and the round after them
+abbrev pub Looking : Call → ℕ → List Noted → ℕ → Type 0
+Looking call round [] next = next ≡ round
+Looking call round (e ∷ entries) next =
+    (e.call ≡ Some call) × (e.reply ≡ None) × ((before : List (Key ⊎ Event)) × (e.events ≡ before ++ inr (Looked round) ∷ [])) × Looking call (round + 1) entries next
+
+-- the entries of one call: its looks, and the entry with its reply
+pub record Answers (call : Call) (said : Response) (entries : List Noted) : Type 0 where
+  pub looks : List Noted
+  pub round : ℕ
+  pub looking : Looking call 0 looks round
+  pub last : Noted
+  pub whole : entries ≡ looks ++ last ∷ []
+  pub call_is : last.call ≡ Some call
+  pub reply_is : last.reply ≡ Some said
+
+-- the entries are those of the calls that entered, in order, each once, and there is no other
+abbrev pub AnswersEach : List Handled → List Noted → Type 0
+AnswersEach [] entries = entries ≡ []
+AnswersEach (Entered call said ∷ rest) entries = (own : List Noted) × (others : List Noted) × (entries ≡ own ++ others) × Answers call said own × AnswersEach rest others
+AnswersEach (Stayed said ∷ rest) entries = AnswersEach rest entries
+
+-- behind them, where the pass was worn out, the looks of the next call
+abbrev pub AnswersOrWears : List Handled → Option Call → List Noted → Type 0
+AnswersOrWears handled None entries = AnswersEach handled entries
+AnswersOrWears handled (Some call) entries =
+    (answered : List Noted) × (looks : List Noted) × (round : ℕ) × (entries ≡ answered ++ looks) × AnswersEach handled answered × Looking call 0 looks round
+
+-- an entry without call: expiry alone
+abbrev pub IsHousekeeping : List Noted → Type 0
+IsHousekeeping [] = Unit {0}
+IsHousekeeping (e ∷ []) = e.call ≡ None
+IsHousekeeping (e ∷ f ∷ entries) = ⊥
+
+-- one connection after another, each with one entry of housekeeping behind it at most
+abbrev pub AnswersConnections : List (List Handled) → List Noted → Type 0
+AnswersConnections [] entries = entries ≡ []
+AnswersConnections (handled ∷ rest) entries =
+    (own : List Noted) × (house : List Noted) × (others : List Noted) × (entries ≡ own ++ house ++ others) × AnswersEach handled own × IsHousekeeping house × AnswersConnections rest others
+
+-- the entries of one caller
+abbrev pub noted_by : ℕ → List Noted → List Noted
+noted_by caller entries = filter (λ e. e.caller == caller) entries
+
+-- What a pass has seen begins the history, and has all of its own entries.
+pub record HasSeen (caller : ℕ) (history seen : List Noted) : Type 0 where
+  pub rest : List Noted
+  pub whole : history ≡ seen ++ rest
+  pub own : noted_by caller rest ≡ []
+
+-- requests that were handled and then one more whose call entered: the entries go on by its own
+abbrev pub AnsweringGoesOn : Type 0
+AnsweringGoesOn =
+    (handled : List Handled) (entries : List Noted) (call : Call) (said : Response) (own : List Noted)
+    → AnswersEach handled entries → Answers call said own → AnswersEach (handled ++ Entered call said ∷ []) (entries ++ own)
+
+-- one more that stayed out leaves the entries as they are
+abbrev pub StayingLeavesEntries : Type 0
+StayingLeavesEntries =
+    (handled : List Handled) (entries : List Noted) (said : Response) → AnswersEach handled entries → AnswersEach (handled ++ Stayed said ∷ []) entries
+
+-- what a caller has in a history that goes on is what it had, and the new entries that are its own
+abbrev pub NotedGrow : Type 0
+NotedGrow = (caller : ℕ) (history more : List Noted) → noted_by caller (history ++ more) ≡ noted_by caller history ++ noted_by caller more
