@@ -1,0 +1,4 @@
+pub mod Lending
+pub mod Rules
+pub mod Turns
+pub mod Views
