@@ -1,0 +1,5 @@
+pub mod Read
+pub mod Record
+pub mod Seen
+pub mod Batch
+pub mod Written

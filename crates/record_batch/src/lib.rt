@@ -1,0 +1,16 @@
+//! Record batches of format 2, read and written.
+#![tactic(auto)]
+
+mod fault;
+mod laws;
+mod read;
+mod record;
+mod write;
+
+pub use fault::BatchFault;
+pub use laws::offsets_of_a_batch_rise;
+pub use read::read_batches;
+pub use write::write_batch;
+
+#[cfg(test)]
+mod tests;

@@ -1,0 +1,18 @@
+use Rattle.std.proofs.Common.{◌∙◌, ap, sym, fold}
+use Rattle.wire_prim.specs.Crc.{byte_step}
+use Rattle.wire_prim.proofs.Linear.{fold-eight}
+use Rattle.wire_prim.proofs.Eights.{eight_are}
+use Rattle.wire_prim.proofs.crc.after_eight.Goals as goal
+
+pub returns : goal.returns
+returns c =
+    rw (
+      c.part-first.ensures,
+      c.part-second.ensures,
+      c.part-third.ensures,
+      c.part-fourth.ensures,
+      c.part.ensures,
+      c.part-2.ensures,
+      c.part-3.ensures,
+      c.part-4.ensures,
+    ) (fold-eight c.args.crc _ _ _ _ _ _ _ _ c.ranges.crc.fits ∙ ap (fold byte_step c.args.crc) (sym (eight_are c.args.bytes.now c.told-bytes)))
