@@ -1,0 +1,11 @@
+pub mod BeginsLemmas
+pub mod FieldLemmas
+pub mod BufferLemmas
+pub mod StreamLemmas
+pub mod TargetLemmas
+pub mod JudgeLemmas
+pub mod FrontLemmas
+pub mod LawLemmas
+pub mod StreamLaw
+pub mod BeginLemmas
+pub mod PromptLemmas

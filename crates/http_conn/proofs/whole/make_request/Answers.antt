@@ -1,0 +1,36 @@
+use Rattle.std.proofs.Common.{◌≡◌, ◌∙◌, ◌+◌, ◌-◌, ℕ, List, Some, length, take, drop, length-drop, length-take, ap, sym, arith, ◌++◌, refl, codes, map}
+use Rattle.std.proofs.lemmas.List.Folds.{drop_split}
+use Rattle.std.specs.List.{before_first, after_first, list_any}
+use Rattle.httparse.specs.Spans.{header_bytes}
+use Rattle.http_conn.specs.Fields.{values_of, joined, is_encoding}
+use Rattle.http_conn.specs.Stream.{is_mark, fields_of}
+use Rattle.http_conn.proofs.StreamLemmas.{head_of}
+use Rattle.http_conn.proofs.whole.make_request.Goals as goal
+
+pub returns : goal.returns
+returns c =
+    let is = c.requires.head in
+    let held : List ℕ = c.args.buf.now in
+    let headers = c.args.headers.now in
+    let len : ℕ = c.args.head.spans.len in
+    let size : ℕ = c.args.head.size in
+    let body : c.in_ok-body.body ≡ take (len + size - len) (drop len held) = c.in_ok-body.ensures in
+    let long : length c.in_ok-body.body ≡ size =
+    ap length body ∙ omega (arith, length-take {A = ℕ} (len + size - len) (drop len held), length-drop len held, c.requires.whole) in
+    let target : c.target_text.result.now ≡ is.head.target = c.target_text.ensures ∙ c.of.ensures ∙ is.at.path in
+    let fields : map (header_bytes held) (take c.args.head.spans.headers headers) ≡ fields_of is.head = is.at.fields in
+    record {
+      head = is.head;
+      after = drop len held;
+      at = head_of held headers c.args.head is;
+      few = is.few;
+      size = is.size ∙ ap (λ (n : ℕ). Some n) (sym long);
+      body = drop_split held len (len + size) (omega arith) ∙ ap (λ (l : List ℕ). l ++ drop (len + size) held) (sym body);
+      method = c.in_ok-method.ensures ∙ c.of-2.ensures ∙ is.at.method;
+      path = c.in_ok-path.ensures ∙ c.target_parts.ensures.path ∙ ap (before_first is_mark) target;
+      query = c.in_ok-query.ensures ∙ c.target_parts.ensures.query ∙ ap (after_first is_mark) target;
+      accept = c.in_ok-accept.ensures ∙ ap (λ (fs : List (List ℕ × List ℕ)). joined (values_of (codes "accept") fs)) fields;
+      content_type = c.in_ok-content_type.ensures ∙ ap (λ (fs : List (List ℕ × List ℕ)). joined (values_of (codes "content-type") fs)) fields;
+      encoded = c.is_encoded.ensures ∙ ap (λ (fs : List (List ℕ × List ℕ)). list_any is_encoding (values_of (codes "content-encoding") fs)) fields;
+      close = refl;
+    }

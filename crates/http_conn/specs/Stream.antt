@@ -1,0 +1,135 @@
+-- The requests of a stream of bytes (RFC 9112). A head is judged by the grammar of `httparse`.
+use Rattle.std.specs.Prelude.{◌≡◌, ℕ, ◌+◌, ◌<◌, ◌≤◌, ◌⊎◌, ◌==◌, Bool, false, List, [], ◌∷◌, ◌++◌, length, map, Option, Some, None, codes}
+use Rattle.std.specs.List.{list_any, before_first, after_first}
+use Rattle.httparse.specs.Grammar.{RequestHead, ReadsRequest, print_request, NeverHasRequest, EndsInTarget, MayBecomeRequest}
+use Rattle.httparse.specs.Spans.{name_and_value}
+use Rattle.rest_codes.specs.declared.response.Reply.{Reply}
+use Rattle.rest_codes.specs.Errors.{refusal_of}
+use Rattle.http_conn.specs.Fields.{frame_of, values_of, joined, is_encoding}
+use Rattle.http_conn.specs.declared.request.Request.{Request}
+
+-- the longest head
+abbrev pub max_head : ℕ
+max_head = 16384
+
+-- the most fields of a head
+abbrev pub max_fields : ℕ
+max_fields = 64
+
+-- the most requests of a connection
+abbrev pub max_requests : ℕ
+max_requests = 100000
+
+-- the bytes begin with this head, which isn't too long
+pub record HasHead (bytes : List ℕ) (head : RequestHead) (after : List ℕ) : Type 0 where
+  pub reads : ReadsRequest bytes head after
+  pub short : length (print_request head) ≤ max_head
+
+-- the bytes begin with no head that isn't too long
+abbrev pub HasNoHead : List ℕ → Type 0
+HasNoHead bytes = (head : RequestHead) (after : List ℕ) → HasHead bytes head after → ⊥
+
+-- the name and the value of each field
+abbrev pub fields_of : RequestHead → List (List ℕ × List ℕ)
+fields_of head = map name_and_value head.fields
+
+-- the size of the body that a head tells, where its framing is served
+abbrev pub frame : RequestHead → Option ℕ
+frame head = frame_of head.minor (fields_of head)
+
+-- the mark between a path and its query
+abbrev pub is_mark : ℕ → Bool
+is_mark b = b == 63
+
+-- the bytes begin with this request: its head, and the body of the size that the head tells
+pub record IsRequest (bytes : List ℕ) (request : Request) (rest : List ℕ) : Type 0 where
+  pub head : RequestHead
+  pub after : List ℕ
+  pub at : HasHead bytes head after
+  pub few : length head.fields ≤ max_fields
+  pub size : frame head ≡ Some (length request.body)
+  pub body : after ≡ request.body ++ rest
+  pub method : request.method ≡ head.method
+  pub path : request.path ≡ before_first is_mark head.target
+  pub query : request.query ≡ after_first is_mark head.target
+  pub accept : request.accept ≡ joined (values_of (codes "accept") (fields_of head))
+  pub content_type : request.content_type ≡ joined (values_of (codes "content-type") (fields_of head))
+  pub encoded : request.encoded ≡ list_any is_encoding (values_of (codes "content-encoding") (fields_of head))
+  pub close : request.close ≡ false
+
+-- a whole head that isn't served: it has too many fields, or its framing isn't built
+pub record IsRefused (bytes : List ℕ) : Type 0 where
+  pub head : RequestHead
+  pub after : List ℕ
+  pub at : HasHead bytes head after
+  pub why : (max_fields < length head.fields) ⊎ (frame head ≡ None)
+
+-- a front of the bytes shorter than the longest head can't become a head, whatever follows.
+-- A front that ends inside a target decides nothing.
+pub record IsHopeless (bytes : List ℕ) : Type 0 where
+  pub front : List ℕ
+  pub behind : List ℕ
+  pub parts : bytes ≡ front ++ behind
+  pub short : length front < max_head
+  pub never : NeverHasRequest front
+  pub decided : EndsInTarget front → ⊥
+
+-- no request can stand here: a head that isn't served, no head in as many bytes as one may have, or no hope of one
+abbrev pub IsBadPlace : List ℕ → Type 0
+IsBadPlace bytes = IsRefused bytes ⊎ (((max_head ≤ length bytes) × HasNoHead bytes) ⊎ IsHopeless bytes)
+
+-- the place is bad, and is answered so; until the other framings are built each is answered 400
+abbrev pub IsBad : List ℕ → Reply → Type 0
+IsBad bytes reply = IsBadPlace bytes × (reply ≡ refusal_of 400)
+
+-- the bytes end inside the body of a request
+pub record IsCutBody (bytes : List ℕ) : Type 0 where
+  pub head : RequestHead
+  pub after : List ℕ
+  pub size : ℕ
+  pub at : HasHead bytes head after
+  pub few : length head.fields ≤ max_fields
+  pub told : frame head ≡ Some size
+  pub cut : length after < size
+
+-- the bytes end inside a head that may still become one
+pub record IsCutHead (bytes : List ℕ) : Type 0 where
+  pub some : 0 < length bytes
+  pub short : length bytes < max_head
+  pub none : HasNoHead bytes
+  pub may : MayBecomeRequest bytes
+
+-- the bytes end inside a request
+abbrev pub IsCut : List ℕ → Type 0
+IsCut bytes = IsCutBody bytes ⊎ IsCutHead bytes
+
+-- Why a stream isn't read further. `due` says that the interim response was due for the request in which it ends.
+pub data Ending : Type 0 where
+  End Closed Limit : Ending
+  CutShort : (due : Bool) → Ending
+  BadPlace : (due : Bool) → Reply → Ending
+
+-- what stands behind the first n requests
+abbrev pub EndsBehind : ℕ → List ℕ → Ending → Type 0
+EndsBehind n rest End = (n < max_requests) × (rest ≡ [])
+EndsBehind n rest Closed = ⊥
+EndsBehind n rest Limit = n ≡ max_requests
+EndsBehind n rest (CutShort due) = (n < max_requests) × (due ≡ false) × IsCut rest
+EndsBehind n rest (BadPlace due reply) = (n < max_requests) × (due ≡ false) × IsBad rest reply
+
+-- the bytes begin with these requests, behind n others, and the rest follows
+abbrev pub Begins : ℕ → List ℕ → List Request → List ℕ → Type 0
+Begins n bytes [] rest = bytes ≡ rest
+Begins n bytes (r ∷ rs) rest = (n < max_requests) × ((mid : List ℕ) × IsRequest bytes r mid × Begins (n + 1) mid rs rest)
+
+-- the requests of the bytes, and why there is no further one
+pub record Stream (bytes : List ℕ) (requests : List Request) (ending : Ending) : Type 0 where
+  pub rest : List ℕ
+  pub begins : Begins 0 bytes requests rest
+  pub ends : EndsBehind (length requests) rest ending
+
+-- all whole requests of the bytes, and of what is behind them nothing can be said yet
+pub record StreamSoFar (bytes : List ℕ) (requests : List Request) : Type 0 where
+  pub rest : List ℕ
+  pub begins : Begins 0 bytes requests rest
+  pub waits : (rest ≡ []) ⊎ IsCut rest

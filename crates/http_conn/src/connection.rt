@@ -1,0 +1,307 @@
+ghost use Rattle.std.specs.Prelude.{◌≡◌, ◌<◌, ◌≤◌, ◌≢◌, ◌⊎◌, ◌++◌, [], ℕ, List, Option, Ok, Err, true, false, length, take, IfOk, OnOk, OnErr, IfErr, nat_lt, if◌then◌else◌};
+ghost use Rattle.std.specs.Io.KnownBytes.{IsAtEnd, Appends};
+ghost use Rattle.gate_io.specs.Counts.{Rose};
+ghost use Rattle.rest_codes.specs.Errors.{refusal_of};
+ghost use Rattle.http_conn.specs.Told.{Comes, StillComes};
+ghost use Rattle.http_conn.specs.Next.{Gives, IsWaiting, is_open};
+ghost use Rattle.http_conn.specs.Stream.{max_head, IsRequest};
+ghost use Rattle.http_conn.specs.declared.request.Request.{Request as RequestOf};
+ghost use Rattle.http_conn.specs.Parts.{max_spans};
+ghost use Rattle.http_conn.specs.Front.{FrontIs};
+
+use crate::buffer::Buffer;
+use crate::judge::{Head, Verdict, judge};
+use crate::whole::make_request;
+use crate::{ConnNo, Next};
+use gate_io::{Sink, Source, Want, write_all};
+use httparse::spans::{EMPTY_HEADER_SPAN, HeaderSpan};
+use rest_codes::refusal;
+use std::alloc::{AllocError, Global};
+use std::marker::Model;
+
+const MAX_HEAD: usize = 16_384;
+
+/// A field line has three bytes at least, so no head has more fields.
+const MAX_SPANS: usize = 5_462;
+
+/// The requests of a source of bytes, one after the other, in any pieces.
+#[derive(Drop)]
+pub struct Connection {
+    held: Buffer,
+    headers: Vec<HeaderSpan>,
+    over: bool,
+    ghost room: { max_spans ≤ length headers.items },
+}
+
+impl Model for Connection {
+    ghost use Rattle.http_conn.specs.Told.{Conn};
+
+    ghost Value = { Conn };
+
+    ghost view = { λ c. record { held = c.held; over = c.over } };
+}
+
+/// What stands at the front: a head, or why there is none.
+#[derive(Clone, Copy)]
+pub(crate) enum Front {
+    Whole(Head),
+    Bad,
+    Cut,
+    End,
+}
+
+/// Judges what is held, where that is as long as a head may be.
+fn judge_full(held: &[u8], headers: &mut [HeaderSpan]) -> Front
+    requires long { max_head ≤ length held.now }
+    requires room { max_spans ≤ length headers.old }
+    ensures { (left : Option (List ℕ)) → FrontIs held.now headers.new left result }
+{
+    match judge(&held[..MAX_HEAD], headers) {
+        Verdict::Whole(head) => Front::Whole(head),
+        Verdict::Bad => Front::Bad,
+        Verdict::Unfinished => Front::Bad,
+    }
+}
+
+/// What there is where the input ended before a head was whole.
+fn ended(held: &Buffer) -> Front
+    ensures { result ≡ (if nat_lt 0 (length held.now) then Front.Cut else Front.End) }
+{
+    if held.len() > 0 {
+        Front::Cut
+    } else {
+        Front::End
+    }
+}
+
+/// What there is where a read failed: a front that is lost already, or the failure.
+fn broken(held: &[u8], headers: &mut [HeaderSpan], no: ConnNo) -> Result<Front, ConnNo>
+    requires short { no ≡ ConnNo.ReadFault → length held.now < max_head }
+    requires room { max_spans ≤ length headers.old }
+    ensures front { IfOk result (λ front. (left : Option (List ℕ))
+        → FrontIs held.now headers.new left front) }
+    ensures only { OnOk result (no ≡ ConnNo.ReadFault) }
+    ensures same { IfErr result (λ e. e ≡ no) }
+    ensures waits { result ≡ Err ConnNo.ReadFault → IsWaiting held.now }
+{
+    if no != ConnNo::ReadFault {
+        return Err(no);
+    }
+    match judge(held, headers) {
+        Verdict::Whole(head) => Ok(Front::Whole(head)),
+        Verdict::Bad => Ok(Front::Bad),
+        Verdict::Unfinished => Err(no),
+    }
+}
+
+fn has_line_end(bytes: &[u8]) -> bool {
+    bytes.contains(&b'\n')
+}
+
+/// Reads until a line ends in what is new, or the longest head is held. So a head that comes in
+/// small pieces isn't parsed at each of them. False where the input had ended before.
+fn fill_line<S: Source>(held: &mut Buffer, source: &mut S) -> Result<bool, ConnNo>
+    requires { length held.old < max_head }
+    ensures same { OnOk result (StillComes held.old (S.left source.old) held.new (S.left source.new)) }
+    ensures grew { result ≡ Ok true → length held.old < length held.new }
+    ensures end { result ≡ Ok false → (held.new ≡ held.old) × IsAtEnd (S.left source.new) }
+    ensures lost { result ≡ Err ConnNo.ReadFault → (length held.new < max_head)
+        × (StillComes held.old (S.left source.old) held.new (S.left source.new)) }
+    ensures cause { result ≡ Err ConnNo.ReadFault
+        → Rose (S.faults source.old) (S.faults source.new) }
+    ensures no_write { (n : ℕ) → result ≢ Err (ConnNo.WriteFault n) }
+    ensures counts { S.faults source.old ≤ S.faults source.new }
+    ensures beside { S.beside source.old source.new }
+{
+    let start = held.len();
+    let mut seen = start;
+    while held.len() < MAX_HEAD {
+        if !held.fill(source)? {
+            return Ok(seen > start);
+        }
+        if has_line_end(&held.front()[seen..]) {
+            return Ok(true);
+        }
+        seen = held.len();
+    }
+    Ok(true)
+}
+
+/// Reads until the front can be judged.
+fn read_head<S: Source>(
+    held: &mut Buffer,
+    headers: &mut [HeaderSpan],
+    source: &mut S,
+) -> Result<Front, ConnNo>
+    requires { max_spans ≤ length headers.old }
+    ensures same { OnOk result (StillComes held.old (S.left source.old) held.new (S.left source.new)) }
+    ensures front { IfOk result (λ front. FrontIs held.new headers.new (S.left source.new) front) }
+    ensures prompt { (request : RequestOf) (rest : List ℕ) → IsRequest held.old request rest
+        → (source.new ≡ source.old) × (held.new ≡ held.old) }
+    ensures lost { result ≡ Err ConnNo.ReadFault → IsWaiting held.new
+        × (StillComes held.old (S.left source.old) held.new (S.left source.new)) }
+    ensures cause { result ≡ Err ConnNo.ReadFault
+        → Rose (S.faults source.old) (S.faults source.new) }
+    ensures no_write { (n : ℕ) → result ≢ Err (ConnNo.WriteFault n) }
+    ensures counts { S.faults source.old ≤ S.faults source.new }
+    ensures beside { S.beside source.old source.new }
+{
+    while held.len() < MAX_HEAD {
+        match judge(held.front(), headers) {
+            Verdict::Whole(head) => return Ok(Front::Whole(head)),
+            Verdict::Bad => return Ok(Front::Bad),
+            Verdict::Unfinished => {}
+        }
+        match fill_line(held, source) {
+            Ok(true) => {}
+            Ok(false) => return Ok(ended(held)),
+            Err(no) => return broken(held.front(), headers, no),
+        }
+    }
+    Ok(judge_full(held.front(), headers))
+}
+
+/// Reads until so many bytes are held. False where the input ends before.
+fn fill_to<S: Source>(held: &mut Buffer, total: usize, source: &mut S) -> Result<bool, ConnNo>
+    ensures same { OnOk result (StillComes held.old (S.left source.old) held.new (S.left source.new)) }
+    ensures behind { OnOk result ((more : List ℕ) × (held.new ≡ held.old ++ more)) }
+    ensures enough { result ≡ Ok true → total ≤ length held.new }
+    ensures end { result ≡ Ok false → (length held.new < total) × IsAtEnd (S.left source.new) }
+    ensures prompt { total ≤ length held.old → source.new ≡ source.old }
+    ensures lost { result ≡ Err ConnNo.ReadFault → ((more : List ℕ)
+        × (held.new ≡ held.old ++ more)) × (length held.new < total)
+        × (StillComes held.old (S.left source.old) held.new (S.left source.new)) }
+    ensures cause { result ≡ Err ConnNo.ReadFault
+        → Rose (S.faults source.old) (S.faults source.new) }
+    ensures no_write { (n : ℕ) → result ≢ Err (ConnNo.WriteFault n) }
+    ensures counts { S.faults source.old ≤ S.faults source.new }
+    ensures beside { S.beside source.old source.new }
+{
+    held.make_room(total)?;
+    while held.len() < total {
+        if !held.fill(source)? {
+            return Ok(false);
+        }
+    }
+    Ok(true)
+}
+
+/// The answer at a bad place.
+fn bad(alloc: Global) -> Result<Next, ConnNo>
+    ensures value { IfOk result (λ next. next ≡ Next.Bad (refusal_of 400)) }
+    ensures fault { IfErr result (λ e. e ≡ ConnNo.Want) }
+{
+    match refusal(alloc, 400) {
+        Ok(reply) => Ok(Next::Bad(reply)),
+        Err(Want) => Err(ConnNo::Want),
+    }
+}
+
+/// Reads one request, or finds why there is none.
+fn read_request<S: Source>(
+    alloc: Global,
+    held: &mut Buffer,
+    headers: &mut [HeaderSpan],
+    source: &mut S,
+) -> Result<Next, ConnNo>
+    requires { max_spans ≤ length headers.old }
+    ensures given { IfOk result (λ next. (all : List ℕ) → Comes held.old (S.left source.old) all
+        → (rest : List ℕ) × Comes held.new (S.left source.new) rest × Gives all next rest) }
+    ensures interim { result ≢ Ok Next.Continue }
+    ensures prompt { (request : RequestOf) (rest : List ℕ) → IsRequest held.old request rest
+        → source.new ≡ source.old }
+    ensures lost { result ≡ Err ConnNo.ReadFault → IsWaiting held.new
+        × (StillComes held.old (S.left source.old) held.new (S.left source.new)) }
+    ensures cause { result ≡ Err ConnNo.ReadFault
+        → Rose (S.faults source.old) (S.faults source.new) }
+    ensures no_write { (n : ℕ) → result ≢ Err (ConnNo.WriteFault n) }
+    ensures counts { S.faults source.old ≤ S.faults source.new }
+    ensures beside { S.beside source.old source.new }
+{
+    let head = match read_head(held, headers, source)? {
+        Front::Whole(head) => head,
+        Front::Bad => return bad(alloc),
+        Front::Cut => return Ok(Next::CutShort),
+        Front::End => return Ok(Next::End),
+    };
+    let total = head.spans.len + head.size;
+    if !fill_to(held, total, source)? {
+        return Ok(Next::CutShort);
+    }
+    let request = make_request(alloc, held.front(), headers, head)?;
+    held.take(total);
+    Ok(Next::Ready(request))
+}
+
+impl Connection {
+    pub fn new(alloc: Global) -> Result<Connection, Want>
+        ensures { IfOk result (λ c. c ≡ record { held = []; over = false }) }
+    {
+        match vec![in alloc; EMPTY_HEADER_SPAN; MAX_SPANS] {
+            Ok(headers) => Ok(Connection {
+                held: Buffer::new(alloc),
+                headers,
+                over: false,
+            }),
+            Err(AllocError) => Err(Want),
+        }
+    }
+
+    /// Reads the next request. After anything but `Ready` and `Continue` the connection is over.
+    pub fn next<S: Source>(&mut self, alloc: Global, source: &mut S) -> Result<Next, ConnNo>
+        // What stands at the front of the bytes that are still to come, and what then follows.
+        ensures given { self.old.over ≡ false → IfOk result (λ next. (all : List ℕ)
+            → Comes self.old.held (S.left source.old) all
+            → (rest : List ℕ) × Comes self.new.held (S.left source.new) rest
+            × Gives all next rest) }
+        // `Continue` comes once requests that expect it are served.
+        ensures interim { result ≢ Ok Next.Continue }
+        // A request that is held whole is given without a read.
+        ensures prompt { self.old.over ≡ false → (request : RequestOf) (rest : List ℕ)
+            → IsRequest self.old.held request rest → source.new ≡ source.old }
+        ensures open { self.old.over ≡ false → IfOk result (λ next. is_open next ≡ true
+            → self.new.over ≡ false) }
+        ensures closed { IfOk result (λ next. is_open next ≡ false → self.new.over ≡ true) }
+        ensures over { self.old.over ≡ true → (result ≡ Ok Next.End) × (source.new ≡ source.old)
+            × (self.new ≡ self.old) }
+
+        // Each whole request that came before the failure was answered by an earlier call.
+        ensures lost { self.old.over ≡ false → result ≡ Err ConnNo.ReadFault → (all : List ℕ)
+            → Comes self.old.held (S.left source.old) all
+            → Comes self.new.held (S.left source.new) all × IsWaiting self.new.held }
+        ensures no_write { (n : ℕ) → result ≢ Err (ConnNo.WriteFault n) }
+        ensures broken { OnErr result (self.new.over ≡ true) }
+
+        ensures cause { result ≡ Err ConnNo.ReadFault
+            → Rose (S.faults source.old) (S.faults source.new) }
+        ensures counts { S.faults source.old ≤ S.faults source.new }
+        ensures beside { S.beside source.old source.new }
+    {
+        if self.over {
+            return Ok(Next::End);
+        }
+        self.over = true;
+        let next = read_request(alloc, &mut self.held, self.headers.as_mut_slice(), source)?;
+        self.over = !next.is_open();
+        Ok(next)
+    }
+
+    /// Writes a response. It takes no memory.
+    pub fn send<K: Sink>(&mut self, sink: &mut K, bytes: &[u8]) -> Result<(), ConnNo>
+        ensures same { self.new ≡ self.old }
+        ensures ok { OnOk result (Appends (K.held sink.old) (K.held sink.new) bytes.now) }
+        ensures cut { (n : ℕ) → result ≡ Err (ConnNo.WriteFault n) → (n < length bytes.now)
+            × Appends (K.held sink.old) (K.held sink.new) (take n bytes.now) }
+        ensures only { OnErr result ((n : ℕ) × (result ≡ Err (ConnNo.WriteFault n))) }
+        ensures cause { OnErr result (Rose (K.faults sink.old) (K.faults sink.new)
+            ⊎ Rose (K.stalls sink.old) (K.stalls sink.new)) }
+        ensures counts { (K.faults sink.old ≤ K.faults sink.new)
+            × (K.stalls sink.old ≤ K.stalls sink.new) }
+        ensures beside { K.beside sink.old sink.new }
+    {
+        match write_all(sink, bytes) {
+            Ok(()) => Ok(()),
+            Err(cut) => Err(ConnNo::WriteFault(cut.written)),
+        }
+    }
+}

@@ -1,0 +1,19 @@
+//! The requests of a stream of bytes, read in any pieces, and the bytes that answer them.
+#![tactic(auto)]
+
+mod buffer;
+mod connection;
+mod fields;
+mod judge;
+mod law;
+mod request;
+mod target;
+#[cfg(test)]
+mod tests;
+mod whole;
+
+pub use connection::Connection;
+pub use law::{
+    bytes_give_one_answer, bytes_have_one_stream, requests_go_on, requests_stand_in_what_was_read,
+};
+pub use request::{ConnNo, Next, Request};
