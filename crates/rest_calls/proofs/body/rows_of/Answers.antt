@@ -1,0 +1,23 @@
+use Rattle.std.proofs.Common.{◌≡◌, ◌∙◌, List, ◌∷◌, [], ◌++◌, ◌+◌, All, subst, sym, ap, arith}
+use Rattle.std.proofs.lemmas.List.{length_push}
+use Rattle.std.proofs.lemmas.List.Elements.{All-push}
+use Rattle.std.proofs.lemmas.Grind.{common_steps}
+use Rattle.rest_calls.specs.declared.call.Row.{Row}
+use Rattle.rest_calls.specs.Views.{NamesPartition}
+use Rattle.rest_calls.proofs.Records.{records_more}
+use Rattle.rest_calls.proofs.body.rows_of.Goals as goal
+
+pub loop-object-preserved : goal.loop-object-preserved
+loop-object-preserved c =
+    let rows = c.loop-object.rows.items in
+    let row = c.in_ok-row.row in
+    let pushed : c.push.new.self.items ≡ rows ++ row ∷ [] = grind (arith, common_steps) in
+    let more = records_more c.args.records.now c.loop-object.object-index c.object-item.result rows row c.loop-object-test.true c.object-item.is c.in_ok-row.ensures.reads in
+    record {
+      reads = rw pushed (more ∙ c.loop-object.invariant.reads);
+      named = subst (λ (l : List Row). All NamesPartition l) (sym pushed) (All-push NamesPartition rows row c.loop-object.invariant.named c.in_ok-row.ensures.named);
+      as_many = rw pushed (length_push rows row ∙ ap (λ n. n + 1) c.loop-object.invariant.as_many);
+    }
+
+pub returns-clause-named : goal.returns-clause-named
+returns-clause-named c = subst (λ (l : List Row). All NamesPartition l) (sym c.from_vec.ensures) c.loop-object.invariant.named

@@ -1,0 +1,308 @@
+use super::call_of;
+use crate::call::{Call, Payload, Row};
+use crate::path::is_topic_name;
+use gate_io::{Items, Text};
+use http::Method;
+use http_conn::Request;
+use rest_codes::Reply;
+use std::alloc::{AllocError, Global};
+use std::test::Fail;
+
+const BINARY: &str = "application/vnd.kafka.binary.v2+json";
+
+const ONE_RECORD: &[u8] = b"{\"records\":[{\"value\":\"S2Fma2E=\",\"partition\":0}]}";
+
+/// A request with this content type, or with none where it is empty.
+fn request_of(
+    alloc: Global,
+    method: &str,
+    path: &str,
+    media: &str,
+    body: &[u8],
+) -> Result<Request, Fail> {
+    let content_type = if media.is_empty() {
+        None
+    } else {
+        Some(Items::from_slice(alloc, media.as_bytes())?)
+    };
+    Ok(Request {
+        method: Method::from_bytes(alloc, method.as_bytes())?,
+        path: Text::from_str(alloc, path)?,
+        query: Text::from_str(alloc, "")?,
+        accept: None,
+        content_type,
+        encoded: false,
+        close: false,
+        body: Items::from_slice(alloc, body)?,
+    })
+}
+
+/// The bytes in hexadecimal behind a `#`, or `null`.
+fn show_payload(alloc: Global, out: &mut String, payload: &Payload) -> Result<(), AllocError> {
+    let Payload::Ready(bytes) = payload else {
+        return out.push_str("null");
+    };
+    out.push_str("#")?;
+    for byte in bytes.as_slice() {
+        let text = format!(in alloc; "{byte:02x}")?;
+        out.push_str(text.as_str())?;
+    }
+    Ok(())
+}
+
+/// Each record as its partition, key and value.
+fn show_rows(alloc: Global, out: &mut String, rows: &[Row]) -> Result<(), AllocError> {
+    for row in rows {
+        if let Some(partition) = row.partition {
+            let text = format!(in alloc; "; {partition} ")?;
+            out.push_str(text.as_str())?;
+        }
+        show_payload(alloc, out, &row.key)?;
+        out.push_str(" ")?;
+        show_payload(alloc, out, &row.value)?;
+    }
+    Ok(())
+}
+
+/// A call as a text, or the code and message of a refusal.
+fn shown(alloc: Global, read: &Result<Call, Reply>) -> Result<String, AllocError> {
+    let mut out = String::new(alloc);
+    match read {
+        Ok(Call::Produce { topic, batch }) => {
+            out.push_str(topic.as_str())?;
+            show_rows(alloc, &mut out, batch.rows.as_slice())?;
+        }
+        Err(Reply::Error { code, text }) => {
+            let message = text.as_str();
+            let refusal = format!(in alloc; "{code} {message}")?;
+            out.push_str(refusal.as_str())?;
+        }
+        Err(_) => out.push_str("another reply")?,
+    }
+    Ok(out)
+}
+
+/// What a POST of binary records to `/topics/t` with this body reads as.
+fn shown_body(alloc: Global, body: &[u8]) -> Result<String, Fail> {
+    let request = request_of(alloc, "POST", "/topics/t", BINARY, body)?;
+    Ok(shown(alloc, &call_of(alloc, &request))?)
+}
+
+// The bytes are those of coreutils' `base64 -d`; `+/8=` has the two characters that differ in the
+// alphabet for URLs.
+#[test]
+fn reads_the_records_of_a_body(rt: HostRuntime) -> Result<(), Fail> {
+    let cases: [(&[u8], &str); 12] = [
+        (ONE_RECORD, "t; 0 null #4b61666b61"),
+        (
+            b"{\"records\":[{\"value\":\"S2Fma2E=\",\"partition\":1},{\"value\":\"bm8=\",\"partition\":0},{\"partition\":1}]}",
+            "t; 1 null #4b61666b61; 0 null #6e6f; 1 null null",
+        ),
+        (
+            b"{\"records\":[{\"key\":\"YWJj\",\"value\":\"+/8=\",\"partition\":2147483647}]}",
+            "t; 2147483647 #616263 #fbff",
+        ),
+        (
+            b"{\"records\":[{\"key\":null,\"value\":null,\"partition\":3}]}",
+            "t; 3 null null",
+        ),
+        (b"{\"records\":[{\"partition\":3}]}", "t; 3 null null"),
+        (
+            b"{\"records\":[{\"key\":\"\",\"value\":\"AA==\",\"partition\":0}]}",
+            "t; 0 # #00",
+        ),
+        (
+            b"{\"records\":[{\"partition\":\"x\"}],\"records\":[{\"partition\":1,\"partition\":2}]}",
+            "t; 2 null null",
+        ),
+        (
+            b"{\"records\":[{\"value\":5,\"value\":\"YQ==\",\"key\":\"YQ==\",\"key\":null,\"partition\":0}]}",
+            "t; 0 null #61",
+        ),
+        (
+            b"{\"key_schema\":7,\"key_schema_id\":\"x\",\"value_schema\":[],\"value_schema_id\":-1,\"records\":[{\"partition\":0}]}",
+            "t; 0 null null",
+        ),
+        (
+            b"{\"a\":{\"records\":1},\"records\":[{\"partition\":0,\"headers\":[1],\"Value\":2}]}",
+            "t; 0 null null",
+        ),
+        (
+            b" {\r\n\t\"records\" : [ { \"partition\" : 0 } ] } \n",
+            "t; 0 null null",
+        ),
+        (
+            b"{\"records\":[{\"\\u0070artition\":0,\"value\":\"\\u00532Fma2E\\u003d\"}]}",
+            "t; 0 null #4b61666b61",
+        ),
+    ];
+    for (place, (body, want)) in cases.iter().enumerate() {
+        let text = shown_body(rt.alloc(), body)?;
+        assert_eq!(rt; text.as_str(), *want, "case {place}");
+    }
+    Ok(())
+}
+
+#[test]
+fn refuses_a_body_without_records(rt: HostRuntime) -> Result<(), Fail> {
+    let cases: [&[u8]; 22] = [
+        b"",
+        b"null",
+        b"[]",
+        b"{}",
+        b"[{\"partition\":0}]",
+        b"\"records\"",
+        b"{\"records\":[]}",
+        b"{\"records\":null}",
+        b"{\"records\":{\"partition\":0}}",
+        b"{\"records\":[null]}",
+        b"{\"records\":[[{\"partition\":0}]]}",
+        b"{\"records\":[{\"records\":[{\"partition\":0}]}]}",
+        b"{\"Records\":[{\"partition\":0}]}",
+        b"{\"records\":[{\"partition\":0}],\"records\":[]}",
+        b"{\"records\":[{\"partition\":0}]}x",
+        b"{\"records\":[{\"partition\":0}]}{}",
+        b"{\"records\":[{\"partition\":0},]}",
+        b"{\"records\":[{\"partition\":0}]",
+        b"\xef\xbb\xbf{\"records\":[{\"partition\":0}]}",
+        b"{\"records\":[{\"partition\":0}],\"a\":\"\xff\"}",
+        b"{\"records\":[{\"partition\":0}],\"a\":\"\\ud800\"}",
+        b"{\"records\":[{\"partition\":0}],\"a\":1e999}",
+    ];
+    for (place, body) in cases.iter().enumerate() {
+        let text = shown_body(rt.alloc(), body)?;
+        assert_eq!(rt; text.as_str(), "422 Body does not read.", "case {place}");
+    }
+    Ok(())
+}
+
+#[test]
+fn refuses_a_record_that_does_not_read(rt: HostRuntime) -> Result<(), Fail> {
+    let cases = [
+        "",
+        "\"value\":\"S2Fma2E=\"",
+        "\"partition\":null",
+        "\"partition\":-1",
+        "\"partition\":-0",
+        "\"partition\":2147483648",
+        "\"partition\":4294967296",
+        "\"partition\":18446744073709551616",
+        "\"partition\":0.0",
+        "\"partition\":1e0",
+        "\"partition\":\"0\"",
+        "\"partition\":[0]",
+        "\"partition\":true",
+        "\"partition\":0,\"partition\":null",
+        "\"partition\":0,\"value\":\"S2F\"",
+        "\"partition\":0,\"value\":\"S2Fma2E\"",
+        "\"partition\":0,\"value\":\"S2Fma2F=\"",
+        "\"partition\":0,\"value\":\"S2Fma2E==\"",
+        "\"partition\":0,\"value\":\"S2Fm a2E=\"",
+        "\"partition\":0,\"value\":\"-_8=\"",
+        "\"partition\":0,\"value\":5",
+        "\"partition\":0,\"value\":false",
+        "\"partition\":0,\"key\":[]",
+        "\"partition\":0,\"key\":{}",
+        "\"partition\":0,\"key\":\"=\"",
+    ];
+    let alloc = rt.alloc();
+    for (place, members) in cases.iter().enumerate() {
+        let body = format!(in alloc; "{{\"records\":[{{\"partition\":0}},{{{members}}}]}}")?;
+        let text = shown_body(alloc, body.as_bytes())?;
+        assert_eq!(rt; text.as_str(), "422 Body does not read.", "case {place}");
+    }
+    Ok(())
+}
+
+/// A body with a member of so many arrays in one another.
+fn nested(alloc: Global, arrays: usize) -> Result<String, AllocError> {
+    let mut body = String::from_str(alloc, "{\"records\":[{\"partition\":0}],\"a\":")?;
+    for _ in 0..arrays {
+        body.push_str("[")?;
+    }
+    for _ in 0..arrays {
+        body.push_str("]")?;
+    }
+    body.push_str("}")?;
+    Ok(body)
+}
+
+#[test]
+fn takes_a_body_that_nests_up_to_127_levels(rt: HostRuntime) -> Result<(), Fail> {
+    let alloc = rt.alloc();
+    for (arrays, want) in [
+        (126, "t; 0 null null"),
+        (127, "422 Body does not read."),
+        (5000, "422 Body does not read."),
+    ] {
+        let body = nested(alloc, arrays)?;
+        let text = shown_body(alloc, body.as_bytes())?;
+        assert_eq!(rt; text.as_str(), want, "{arrays} arrays");
+    }
+    Ok(())
+}
+
+#[test]
+fn refuses_a_request_of_another_kind(rt: HostRuntime) -> Result<(), Fail> {
+    let cases = [
+        ("GET", "/topics/t", BINARY),
+        ("PUT", "/topics/t", BINARY),
+        ("post", "/topics/t", BINARY),
+        ("POST", "", BINARY),
+        ("POST", "/", BINARY),
+        ("POST", "/topics", BINARY),
+        ("POST", "/topics/", BINARY),
+        ("POST", "/topics/t/", BINARY),
+        ("POST", "/topics/t/partitions/0", BINARY),
+        ("POST", "/topics/%74", BINARY),
+        ("POST", "/topics/a b", BINARY),
+        ("POST", "/topics/\u{e9}", BINARY),
+        ("POST", "/Topics/t", BINARY),
+        ("POST", "topics/t", BINARY),
+        ("POST", "/topics/t", ""),
+        ("POST", "/topics/t", "application/vnd.kafka.json.v2+json"),
+        ("POST", "/topics/t", "Application/vnd.kafka.binary.v2+json"),
+        (
+            "POST",
+            "/topics/t",
+            "application/vnd.kafka.binary.v2+json;q=1",
+        ),
+        ("POST", "/topics/t", "application/vnd.kafka.binary.v2+json "),
+        (
+            "POST",
+            "/topics/t",
+            "application/vnd.kafka.binary.v2+json,application/vnd.kafka.binary.v2+json",
+        ),
+    ];
+    let alloc = rt.alloc();
+    for (place, (method, path, media)) in cases.iter().enumerate() {
+        let request = request_of(alloc, method, path, media, b"{}")?;
+        let text = shown(alloc, &call_of(alloc, &request))?;
+        assert_eq!(rt; text.as_str(), "404 Not found.", "case {place}");
+    }
+    Ok(())
+}
+
+#[test]
+fn takes_names_of_1_to_249_characters(rt: HostRuntime) -> Result<(), Fail> {
+    let alloc = rt.alloc();
+    let mut long = String::new(alloc);
+    for _ in 0..248 {
+        long.push_str("x")?;
+    }
+    for (place, (end, is_taken)) in [("", true), ("y", true), ("yz", false)].iter().enumerate() {
+        let long = long.as_str();
+        let path = format!(in alloc; "/topics/{long}{end}")?;
+        let request = request_of(alloc, "POST", path.as_str(), BINARY, ONE_RECORD)?;
+        assert_eq!(rt; call_of(alloc, &request).is_ok(), *is_taken, "case {place}");
+    }
+    for name in [".", "..", "a.b_c-9Z"] {
+        assert!(rt; is_topic_name(name), "{name}");
+        let path = format!(in alloc; "/topics/{name}")?;
+        let request = request_of(alloc, "POST", path.as_str(), BINARY, ONE_RECORD)?;
+        let text = shown(alloc, &call_of(alloc, &request))?;
+        let want = format!(in alloc; "{name}; 0 null #4b61666b61")?;
+        assert_eq!(rt; text.as_str(), want.as_str());
+    }
+    Ok(())
+}
