@@ -1,0 +1,11 @@
+//! A produce: a request's records by partition, one call of the link, and the answer of each record.
+#![tactic(auto)]
+
+mod by_part;
+mod parts;
+mod request;
+mod send;
+mod told;
+
+pub use request::{ProduceNo, produce};
+pub use told::Told;

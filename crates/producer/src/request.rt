@@ -1,0 +1,79 @@
+ghost use Rattle.std.specs.Prelude.{◌≡◌, ◌<◌, ◌≢◌, ◌^◌, ℕ, List, All, length, Some, Err, Result};
+ghost use Rattle.model.specs.Log.{Keeps, IsLog};
+ghost use Rattle.model.specs.Fixed.{SameCommits};
+ghost use Rattle.model.specs.Step.{ProduceEnds};
+ghost use Rattle.broker_link.specs.declared.link.LinkNo.TheVariants.{Want as LinkWant};
+ghost use Rattle.rest_calls.specs.Views.{batch_of, NamesPartition};
+ghost use Rattle.producer.specs.Replies.{IsCounted, IsGood, link_reply, refusal_reply, reply_of};
+
+use crate::Told;
+use crate::parts::{are_within, count_parts};
+use crate::send::store;
+use broker_link::{Link, LinkNo};
+use gate_io::Items;
+use rest_calls::Batch;
+use std::alloc::Global;
+
+/// Why a produce has no answer for its records.
+#[derive(Clone, Copy, Debug, PartialEq, Eq)]
+pub enum ProduceNo {
+    /// The broker doesn't know the topic.
+    NoTopic,
+    /// The topic lacks the partition of a record.
+    NoPartition,
+    /// The link failed, or refused the whole call. Never with the link's want of memory.
+    Link(LinkNo),
+    Want,
+}
+
+ghost use Rattle.producer.specs.declared.request.ProduceNo.TheVariants.{Link as LinkFailed};
+
+fn failed(e: LinkNo) -> ProduceNo
+    ensures reply { refusal_reply result ≡ link_reply e }
+    ensures apart { result ≢ LinkFailed LinkWant }
+{
+    match e {
+        LinkNo::Want => ProduceNo::Want,
+        other => ProduceNo::Link(other),
+    }
+}
+
+/// Stores the records of a request, with at most one produce call, and answers each in request order.
+/// Nothing is sent but metadata before the topic and each partition are known.
+pub fn produce<L: Link>(
+    alloc: Global,
+    now: u64,
+    link: &mut L,
+    topic: &str,
+    batch: &Batch,
+) -> Result<Items<Told>, ProduceNo>
+    requires some { 0 < length batch.now.rows }
+    requires few { length batch.now.rows < 2 ^ 63 }
+    requires named { All NamesPartition batch.now.rows }
+    ensures ends { L.tells link.old → IsLog (L.log link.old) → ProduceEnds (L.log link.old) (L.log link.new) topic.now (batch_of batch.now) (Some (reply_of result)) }
+
+    ensures apart { result ≢ Err (LinkFailed LinkWant) }
+
+    ensures telling { L.tells link.old → L.tells link.new }
+    ensures keeps { L.tells link.old → Keeps (L.log link.old) (L.log link.new) × SameCommits (L.log link.old) (L.log link.new) }
+    ensures is_log { L.tells link.old → IsLog (L.log link.old) → IsLog (L.log link.new) }
+
+    ensures counts { IsCounted (L.counts link.old) (L.counts link.new) (reply_of result) }
+    ensures plainly { L.plain link.old → L.plain link.new }
+    ensures good { L.plain link.old → L.tells link.old → IsLog (L.log link.old) → IsGood (reply_of result) }
+    ensures alone { L.plain link.old → (L.log link.new).others ≡ (L.log link.old).others }
+{
+    let rows = batch.rows.as_slice();
+    let count = match count_parts(alloc, link, topic) {
+        Ok(Some(count)) => count,
+        Ok(None) => return Err(ProduceNo::NoTopic),
+        Err(e) => return Err(failed(e)),
+    };
+    if !are_within(rows, count) {
+        return Err(ProduceNo::NoPartition);
+    }
+    match store(alloc, now, link, topic, rows) {
+        Ok(told) => Ok(told),
+        Err(e) => Err(failed(e)),
+    }
+}

@@ -1,0 +1,61 @@
+ghost use Rattle.std.specs.Prelude.{◌≡◌, ◌<◌, ◌^◌, ℕ, List, map, length, true, All, IfOk, IfErr, OnErr};
+ghost use Rattle.model.specs.Log.{Keeps, IsLog};
+ghost use Rattle.std.specs.List.{list_any};
+ghost use Rattle.gate_io.specs.Counts.{Rose};
+ghost use Rattle.model.specs.Legal.{is_failed};
+ghost use Rattle.model.specs.Fixed.{SameCommits};
+ghost use Rattle.model.specs.Produced.{Answered, Unknown};
+ghost use Rattle.broker_link.specs.declared.link.LinkNo.TheVariants.{Want};
+ghost use Rattle.broker_link.specs.Causes.{HasCause};
+ghost use Rattle.producer.specs.Grouped.{placed_of};
+ghost use Rattle.rest_calls.specs.Views.{NamesPartition};
+ghost use Rattle.producer.specs.Payloads.{number_in, payload_of};
+ghost use Rattle.producer.specs.Plain.{TellsPlainly};
+
+use crate::Told;
+use crate::by_part::{group, number_of};
+use crate::told::tell;
+use broker_link::{Link, LinkNo};
+use gate_io::Items;
+use rest_calls::Row;
+use std::alloc::{AllocError, Global};
+
+fn numbers_of(alloc: Global, rows: &[Row]) -> Result<Vec<u32>, AllocError>
+    ensures { IfOk result (λ numbers. numbers.items ≡ map number_in rows.now) }
+{
+    let mut numbers = Vec::with_capacity(alloc, rows.len())?;
+    for row in rows {
+        numbers.push(number_of(row))?;
+    }
+    Ok(numbers)
+}
+
+/// Stores the records of a request by one call of the link, and answers each in request order.
+pub(crate) fn store<L: Link>(
+    alloc: Global,
+    now: u64,
+    link: &mut L,
+    topic: &str,
+    rows: &[Row],
+) -> Result<Items<Told>, LinkNo>
+    requires some { 0 < length rows.now }
+    requires few { length rows.now < 2 ^ 63 }
+    requires named { All NamesPartition rows.now }
+    ensures telling { L.tells link.old → L.tells link.new }
+    ensures keeps { L.tells link.old → Keeps (L.log link.old) (L.log link.new) × SameCommits (L.log link.old) (L.log link.new) }
+    ensures is_log { L.tells link.old → IsLog (L.log link.old) → IsLog (L.log link.new) }
+    ensures answered { L.tells link.old → IfOk result (λ told. Answered (L.log link.old) (L.log link.new) topic.now (map payload_of rows.now) (map placed_of told)) }
+    ensures unknown { L.tells link.old → OnErr result (Unknown (L.log link.old) (L.log link.new) topic.now (map payload_of rows.now)) }
+    ensures cause { HasCause (L.counts link.old) (L.counts link.new) result }
+    ensures whose { IfOk result (λ told. map (λ t. t.partition) told ≡ map number_in rows.now) }
+    ensures lacked { L.plain link.old → L.tells link.old → IfOk result (All (TellsPlainly (L.log link.old) topic.now)) }
+    ensures codes { IfOk result (λ told. list_any is_failed (map placed_of told) ≡ true → Rose (L.counts link.old).refusals (L.counts link.new).refusals) }
+    ensures alone { L.plain link.old → (L.log link.new).others ≡ (L.log link.old).others }
+    ensures plainly { L.plain link.old → L.plain link.new × IfErr result (λ e. e ≡ Want) }
+{
+    let parts = group(alloc, rows)?;
+    let numbers = numbers_of(alloc, rows)?;
+    let placed = link.produce(alloc, now, topic, parts.as_slice())?;
+    let told = tell(alloc, numbers.as_slice(), placed.as_slice())?;
+    Ok(told)
+}

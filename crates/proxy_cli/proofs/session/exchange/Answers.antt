@@ -1,0 +1,28 @@
+use Rattle.std.proofs.Common.{◌≡◌, Ok, Err, inl, inr, refl, ap, Bool, true, false}
+use Rattle.std.specs.Prelude.{◌⊎◌}
+use Rattle.http_conn.specs.declared.request.ConnNo.{ConnNo}
+use Rattle.http_conn.specs.declared.request.ConnNo.TheVariants.{WriteFault}
+use Rattle.rest_codes.specs.declared.response.Reply.TheVariants.{Want}
+use Rattle.proxy_cli.proofs.Wants.{answered_wants}
+use Rattle.proxy_cli.proofs.session.exchange.Goals as goal
+
+pub returns-in-Ok-clause-answered : goal.returns-in-Ok-clause-answered
+returns-in-Ok-clause-answered g c = λ tells is idle advertise.
+    let answered = c.answer-reply.ensures.answered tells is idle advertise in
+    elim (either c.in-Ok.field-0) [
+      | inl e ↦ (c.answer-reply.result, answered, c.in-Ok.ensures.whole (ap (λ (b : Bool). Ok b) e))
+      | inr e ↦ (Want, answered_wants idle _ advertise _ _ _ _ _ _ answered, c.in-Ok.ensures.wanting (ap (λ (b : Bool). Ok b) e))
+    ]
+  where
+    either : (b : Bool) → (b ≡ true) ⊎ (b ≡ false)
+    either true = inl refl
+    either false = inr refl
+
+pub returns-clause-cut : goal.returns-clause-cut
+returns-clause-cut g c = λ n e tells log idle advertise.
+    let is : c.in-Err.e ≡ WriteFault n = cc in
+    let answered = c.answer-reply.ensures.answered tells log idle advertise in
+    elim (c.in-Err.ensures.cut n (ap (λ (x : ConnNo). Err x) is)) [
+      | inl whole ↦ (c.answer-reply.result, answered, whole)
+      | inr want ↦ (Want, answered_wants idle _ advertise _ _ _ _ _ _ answered, want)
+    ]

@@ -1,0 +1,61 @@
+use Rattle.std.proofs.Common.{◌≡◌, Err, inl, refl, ap, sym, subst, Bool, true, false, []}
+use Rattle.std.specs.Io.KnownBytes.{Appends}
+use Rattle.http_conn.specs.declared.request.ConnNo.{ConnNo}
+use Rattle.http_conn.specs.declared.request.ConnNo.TheVariants.{WriteFault}
+use Rattle.http_conn.specs.Told.{Comes, Conn}
+use Rattle.http_conn.specs.Stream.Ending.{CutShort, BadPlace}
+use Rattle.rest_codes.specs.Response.{response_of}
+use Rattle.proxy_cli.specs.Turn.{CutAt}
+use Rattle.proxy_cli.proofs.Wants.{nothing_appended}
+use Rattle.proxy_cli.proofs.session.serve_one.Goals as goal
+
+pub returns-in-Ok-clause-served : goal.returns-in-Ok-clause-served
+returns-in-Ok-clause-served g c = λ e tells is idle advertise all comes.
+    let given = rw c.in-Ok-Ready.field-0-is at (c.in-Ok-Ready.ensures.given c.requires) in
+    let front = given all comes in
+    let said = c.in-Ok.ensures.answered tells is idle advertise in
+    record {
+      request = c.in-Ok-Ready.request;
+      reply = said.0;
+      rest = front.0;
+      comes = subst (λ (k : Conn). Comes k.held (g.S.Source.left c.next.new.source) front.0) (sym c.in-Ok.ensures.same) front.1;
+      is = front.2;
+      answered = said.1;
+      wrote = subst (λ (b : Bool). Appends (g.K.Sink.held c.args.sink.now) (g.K.Sink.held c.exchange.new.sink) (response_of said.0 b)) c.closes-close.ensures said.2;
+    }
+
+pub returns-in-Ok-Ready-clause-cut : goal.returns-in-Ok-Ready-clause-cut
+returns-in-Ok-Ready-clause-cut g c = λ n e tells is idle advertise all comes.
+    let fault : c.in-Err-exchange.e ≡ WriteFault n = cc in
+    let given = rw c.in-Ok-Ready.field-0-is at (c.in-Ok-Ready.ensures.given c.requires) in
+    let front = given all comes in
+    let said = c.in-Err-exchange.ensures.cut n (ap (λ (x : ConnNo). Err x) fault) tells is idle advertise in
+    inl (record {
+      request = c.in-Ok-Ready.request;
+      reply = said.0;
+      rest = front.0;
+      is = front.2;
+      answered = said.1;
+      cut = subst (λ (b : Bool). CutAt n (response_of said.0 b) (g.K.Sink.held c.args.sink.now) (g.K.Sink.held c.exchange.new.sink)) c.closes-close.ensures said.2;
+    })
+
+pub returns-in-Ok-CutShort-clause-ended : goal.returns-in-Ok-CutShort-clause-ended
+returns-in-Ok-CutShort-clause-ended g c = λ e. (
+  refl,
+  refl,
+  λ all comes.
+      let given = rw c.in-Ok-CutShort.field-0-is at (c.in-Ok-CutShort.ensures.given c.requires) in
+      let front = given all comes in
+      record { ending = CutShort false; ends = (refl, front.2.0); last = []; is_last = refl; wrote = nothing_appended (g.K.Sink.held c.args.sink.now) },
+)
+
+pub returns-in-Ok-refuse-clause-ended : goal.returns-in-Ok-refuse-clause-ended
+returns-in-Ok-refuse-clause-ended g c = λ e. (
+  refl,
+  refl,
+  λ all comes.
+      let given = rw c.in-Ok-Bad.field-0-is at (c.in-Ok-Bad.ensures.given c.requires) in
+      let front = given all comes in
+      let said = c.in-Ok-refuse.ensures.wrote in
+      record { ending = BadPlace false c.in-Ok-Bad.reply; ends = (refl, front.2.0); last = response_of said.0 true; is_last = (said.0, said.1, refl); wrote = said.2 },
+)

@@ -1,0 +1,7 @@
+pub mod Says
+pub mod Served
+pub mod Session
+pub mod Status
+pub mod Turn
+pub mod Words
+pub mod WordsRead

@@ -1,0 +1,122 @@
+ghost use Rattle.std.specs.Prelude.{◌≡◌, ◌⊎◌, ℕ, List, Some, None, Result, map, string_bytes};
+ghost use Rattle.gate_io.specs.Counts.{Rose};
+ghost use Rattle.http_conn.specs.declared.request.ConnNo.TheVariants.{WriteFault, ReadFault, Want as WantConn};
+ghost use Rattle.proxy_cli.specs.Session.{SessionServes, SessionLoses, SessionStarves, SessionCuts};
+ghost use Rattle.proxy_cli.specs.Status.{IsStatus, served_status};
+ghost use Rattle.proxy_cli.specs.Words.{plans_of, words_of};
+
+use crate::session::serve;
+use crate::words::{Command, WordNo, read_words};
+use broker_link::MemLink;
+use gate_io::{Clock, Sink, Source, Text, Want, write_all};
+use http_conn::ConnNo;
+use std::alloc::Global;
+
+fn say<E: Sink>(err: &mut E, text: &[u8]) {
+    let _ = write_all(err, text);
+    let _ = write_all(err, b"\n");
+}
+
+fn topics_in(command: &Command) -> &[(Text, u32)]
+    ensures { result.now ≡ plans_of command.now }
+{
+    match command {
+        Command::Session(session) => session.topics.as_slice(),
+    }
+}
+
+fn status_of<E: Sink>(err: &mut E, served: Result<(), ConnNo>) -> u8
+    ensures { result ≡ served_status served }
+{
+    match served {
+        Ok(()) => 0,
+        Err(ConnNo::ReadFault) => {
+            say(err, b"read fault");
+            3
+        }
+        Err(ConnNo::WriteFault(_)) => {
+            say(err, b"write fault");
+            4
+        }
+        Err(ConnNo::Want) => {
+            say(err, b"out of memory");
+            7
+        }
+    }
+}
+
+/// Serves the requests of a source by the words of `session`, and answers the status: 0 where the
+/// input was read to its end, its limit or its first bad place, 2 where the words don't read, 3
+/// where the source failed, 4 where the sink failed or took nothing, 7 for want of memory. One line
+/// goes to `err` with each status but 0.
+pub fn run_session<S: Source, K: Sink, E: Sink, C: Clock>(
+    alloc: Global,
+    words: &[String],
+    src: &mut S,
+    sink: &mut K,
+    err: &mut E,
+    clock: &mut C,
+) -> u8
+    // Every reply is that of its request in one legal run, each call once and in order.
+    ensures output { result ≡ 0 → SessionServes (map string_bytes words.now) (S.left src.old) (K.held sink.old) (K.held sink.new) }
+
+    // What stands where the source, the sink or memory failed.
+    ensures lost { result ≡ 3 → SessionLoses (map string_bytes words.now) (S.left src.old) (S.left src.new) (K.held sink.old) (K.held sink.new) }
+    ensures cut { result ≡ 4 → SessionCuts (map string_bytes words.now) (S.left src.old) (K.held sink.old) (K.held sink.new) }
+    ensures starved { result ≡ 7 → (sink.new ≡ sink.old) ⊎ SessionStarves (map string_bytes words.now) (S.left src.old) (K.held sink.old) (K.held sink.new) }
+
+    // Each status but 0 and 7 has its cause, and words that don't read leave all as it was.
+    ensures words { result ≡ 2 → words_of (map string_bytes words.now) ≡ None }
+    ensures unread { words_of (map string_bytes words.now) ≡ None → (result ≡ 2) ⊎ (result ≡ 7) }
+    ensures untouched { words_of (map string_bytes words.now) ≡ None → (sink.new ≡ sink.old) × (src.new ≡ src.old) }
+    ensures read { result ≡ 3 → Rose (S.faults src.old) (S.faults src.new) }
+    ensures write { result ≡ 4 → Rose (K.faults sink.old) (K.faults sink.new) ⊎ Rose (K.stalls sink.old) (K.stalls sink.new) }
+    ensures known { IsStatus result }
+{
+    let command = match read_words(alloc, words) {
+        Ok(command) => command,
+        Err(WordNo::Bad(text)) => {
+            say(err, text.as_bytes());
+            return 2;
+        }
+        Err(WordNo::Want) => {
+            say(err, b"out of memory");
+            return 7;
+        }
+    };
+    let mut link = match MemLink::new(alloc, topics_in(&command)) {
+        Ok(link) => link,
+        Err(Want) => {
+            say(err, b"out of memory");
+            return 7;
+        }
+    };
+    let mut last = 0;
+    let served = serve(alloc, src, sink, &mut link, &mut last, clock);
+    status_of(err, served)
+}
+
+/// Runs the command that the words ask for: `session` alone, as `run_session` does.
+pub fn run<S: Source, K: Sink, E: Sink, C: Clock>(
+    alloc: Global,
+    words: &[String],
+    src: &mut S,
+    sink: &mut K,
+    err: &mut E,
+    clock: &mut C,
+) -> u8
+    ensures output { result ≡ 0 → SessionServes (map string_bytes words.now) (S.left src.old) (K.held sink.old) (K.held sink.new) }
+
+    ensures lost { result ≡ 3 → SessionLoses (map string_bytes words.now) (S.left src.old) (S.left src.new) (K.held sink.old) (K.held sink.new) }
+    ensures cut { result ≡ 4 → SessionCuts (map string_bytes words.now) (S.left src.old) (K.held sink.old) (K.held sink.new) }
+    ensures starved { result ≡ 7 → (sink.new ≡ sink.old) ⊎ SessionStarves (map string_bytes words.now) (S.left src.old) (K.held sink.old) (K.held sink.new) }
+
+    ensures words { result ≡ 2 → words_of (map string_bytes words.now) ≡ None }
+    ensures unread { words_of (map string_bytes words.now) ≡ None → (result ≡ 2) ⊎ (result ≡ 7) }
+    ensures untouched { words_of (map string_bytes words.now) ≡ None → (sink.new ≡ sink.old) × (src.new ≡ src.old) }
+    ensures read { result ≡ 3 → Rose (S.faults src.old) (S.faults src.new) }
+    ensures write { result ≡ 4 → Rose (K.faults sink.old) (K.faults sink.new) ⊎ Rose (K.stalls sink.old) (K.stalls sink.new) }
+    ensures known { IsStatus result }
+{
+    run_session(alloc, words, src, sink, err, clock)
+}

@@ -1,0 +1,207 @@
+ghost use Rattle.std.specs.Prelude.{◌≡◌, ◌≤◌, ◌<◌, ◌⊎◌, ◌||◌, ℕ, List, [], Ok, Err, true, false, OnOk, OnErr, Some, None, take, length};
+ghost use Rattle.std.specs.Io.KnownBytes.{Appends};
+ghost use Rattle.gate_io.specs.Counts.{Rose};
+ghost use Rattle.model.specs.Log.{IsLog};
+ghost use Rattle.rest_codes.specs.Response.{response_of};
+ghost use Rattle.rest_codes.specs.declared.response.Reply.{Reply as AReply};
+ghost use Rattle.rest_codes.specs.declared.response.Reply.TheVariants.{Want as WantReply};
+ghost use Rattle.http_conn.specs.declared.request.ConnNo.TheVariants.{WriteFault, ReadFault, Want as WantConn};
+ghost use Rattle.http_conn.specs.Told.{Comes};
+ghost use Rattle.http_conn.specs.Next.{IsWaiting};
+ghost use Rattle.proxy_cli.specs.Says.{OrWant};
+ghost use Rattle.proxy_cli.specs.Served.{AnswersOne, at_rest};
+ghost use Rattle.proxy_cli.specs.Session.{ServesAll, ServesSome, ServesFirst, ServesUntil};
+ghost use Rattle.proxy_cli.specs.Turn.{ServesOne, EndsHere, CutAt, CutsReply, CutsRefusal};
+
+use crate::answer::answer;
+use broker_link::Link;
+use gate_io::{Clock, Sink, Source, Want};
+use http_conn::{ConnNo, Connection, Next, Request};
+use rest_codes::{Reply, response_bytes, want_response};
+use std::alloc::Global;
+
+const MAX_REQUESTS: u32 = 100_000;
+
+/// Sends the response to a reply. False where its bytes found no memory: then that of want of
+/// memory was sent in its place.
+fn send<K: Sink>(
+    alloc: Global,
+    connection: &mut Connection,
+    sink: &mut K,
+    reply: &Reply,
+    close: bool,
+) -> Result<bool, ConnNo>
+    ensures same { connection.new ≡ connection.old }
+    ensures whole { result ≡ Ok true → Appends (K.held sink.old) (K.held sink.new) (response_of reply.now close) }
+    ensures wanting { result ≡ Ok false → Appends (K.held sink.old) (K.held sink.new) (response_of WantReply close) }
+    ensures cut { (n : ℕ) → result ≡ Err (WriteFault n) → CutAt n (response_of reply.now close) (K.held sink.old) (K.held sink.new) ⊎ CutAt n (response_of WantReply close) (K.held sink.old) (K.held sink.new) }
+    ensures only { OnErr result ((n : ℕ) × (result ≡ Err (WriteFault n))) }
+    ensures cause { OnErr result (Rose (K.faults sink.old) (K.faults sink.new) ⊎ Rose (K.stalls sink.old) (K.stalls sink.new)) }
+    ensures counts { (K.faults sink.old ≤ K.faults sink.new) × (K.stalls sink.old ≤ K.stalls sink.new) }
+{
+    match response_bytes(alloc, reply, close) {
+        Ok(bytes) => {
+            connection.send(sink, bytes.as_slice())?;
+            Ok(true)
+        }
+        Err(Want) => {
+            connection.send(sink, want_response(close))?;
+            Ok(false)
+        }
+    }
+}
+
+/// Answers a request and sends its response.
+fn exchange<K: Sink, L: Link, C: Clock>(
+    alloc: Global,
+    connection: &mut Connection,
+    sink: &mut K,
+    link: &mut L,
+    last: &mut u64,
+    clock: &mut C,
+    request: &Request,
+    close: bool,
+) -> Result<(), ConnNo>
+    ensures same { connection.new ≡ connection.old }
+    ensures answered { OnOk result (L.tells link.old → IsLog (L.log link.old) → (idle : ℕ) (advertise : List ℕ)
+        → (reply : AReply) × AnswersOne idle (L.plain link.old) advertise request.now last.old (L.log link.old) reply (L.log link.new) last.new
+        × Appends (K.held sink.old) (K.held sink.new) (response_of reply close)) }
+    ensures cut { (n : ℕ) → result ≡ Err (WriteFault n) → L.tells link.old → IsLog (L.log link.old) → (idle : ℕ) (advertise : List ℕ)
+        → (reply : AReply) × AnswersOne idle (L.plain link.old) advertise request.now last.old (L.log link.old) reply (L.log link.new) last.new
+        × CutAt n (response_of reply close) (K.held sink.old) (K.held sink.new) }
+    ensures only { OnErr result ((n : ℕ) × (result ≡ Err (WriteFault n))) }
+    ensures cause { OnErr result (Rose (K.faults sink.old) (K.faults sink.new) ⊎ Rose (K.stalls sink.old) (K.stalls sink.new)) }
+    ensures counts { (K.faults sink.old ≤ K.faults sink.new) × (K.stalls sink.old ≤ K.stalls sink.new) }
+
+    ensures telling { L.tells link.old → L.tells link.new }
+    ensures is_log { L.tells link.old → IsLog (L.log link.old) → IsLog (L.log link.new) }
+    ensures plainly { L.plain link.old → L.plain link.new }
+{
+    let reply = answer(alloc, link, last, clock, request);
+    match send(alloc, connection, sink, &reply, close) {
+        Ok(_) => Ok(()),
+        Err(e) => Err(e),
+    }
+}
+
+/// Sends the refusal of a place where no request can stand.
+fn refuse<K: Sink>(
+    alloc: Global,
+    connection: &mut Connection,
+    sink: &mut K,
+    reply: &Reply,
+) -> Result<(), ConnNo>
+    ensures wrote { OnOk result ((said : AReply) × OrWant reply.now said × Appends (K.held sink.old) (K.held sink.new) (response_of said true)) }
+    ensures cut { (n : ℕ) → result ≡ Err (WriteFault n) → (said : AReply) × OrWant reply.now said × CutAt n (response_of said true) (K.held sink.old) (K.held sink.new) }
+    ensures only { OnErr result ((n : ℕ) × (result ≡ Err (WriteFault n))) }
+    ensures cause { OnErr result (Rose (K.faults sink.old) (K.faults sink.new) ⊎ Rose (K.stalls sink.old) (K.stalls sink.new)) }
+    ensures counts { (K.faults sink.old ≤ K.faults sink.new) × (K.stalls sink.old ≤ K.stalls sink.new) }
+{
+    match send(alloc, connection, sink, reply, true) {
+        Ok(_) => Ok(()),
+        Err(e) => Err(e),
+    }
+}
+
+/// The response to this request closes.
+fn closes(request: &Request, is_last: bool) -> bool
+    ensures { result ≡ (request.now.close || is_last) }
+{
+    request.close || is_last
+}
+
+/// Serves one request. False where there is no further one.
+fn serve_one<S: Source, K: Sink, L: Link, C: Clock>(
+    alloc: Global,
+    connection: &mut Connection,
+    source: &mut S,
+    sink: &mut K,
+    link: &mut L,
+    last: &mut u64,
+    clock: &mut C,
+    close: bool,
+) -> Result<bool, ConnNo>
+    requires { connection.old.over ≡ false }
+    ensures going { result ≡ Ok true → connection.new.over ≡ false }
+    ensures served { result ≡ Ok true → L.tells link.old → IsLog (L.log link.old) → (idle : ℕ) (advertise all : List ℕ) → Comes connection.old.held (S.left source.old) all
+        → ServesOne idle (L.plain link.old) advertise all connection.new.held (S.left source.new) last.old (L.log link.old) (L.log link.new) last.new (K.held sink.old) (K.held sink.new) close }
+    ensures ended { result ≡ Ok false → (link.new ≡ link.old) × (last.new ≡ last.old) × ((all : List ℕ) → Comes connection.old.held (S.left source.old) all → EndsHere all (K.held sink.old) (K.held sink.new)) }
+    ensures cut { (n : ℕ) → result ≡ Err (WriteFault n) → L.tells link.old → IsLog (L.log link.old) → (idle : ℕ) (advertise all : List ℕ) → Comes connection.old.held (S.left source.old) all
+        → CutsReply idle (L.plain link.old) advertise n all last.old (L.log link.old) (L.log link.new) last.new (K.held sink.old) (K.held sink.new) close
+        ⊎ CutsRefusal n all last.old (L.log link.old) (L.log link.new) last.new (K.held sink.old) (K.held sink.new) }
+    ensures lost { result ≡ Err ReadFault → (link.new ≡ link.old) × (last.new ≡ last.old) × (sink.new ≡ sink.old)
+        × ((all : List ℕ) → Comes connection.old.held (S.left source.old) all → Comes connection.new.held (S.left source.new) all × IsWaiting connection.new.held) }
+    ensures starved { result ≡ Err WantConn → (link.new ≡ link.old) × (last.new ≡ last.old) × (sink.new ≡ sink.old) }
+
+    ensures read { result ≡ Err ReadFault → Rose (S.faults source.old) (S.faults source.new) }
+    ensures write { (n : ℕ) → result ≡ Err (WriteFault n) → Rose (K.faults sink.old) (K.faults sink.new) ⊎ Rose (K.stalls sink.old) (K.stalls sink.new) }
+    ensures reads { S.faults source.old ≤ S.faults source.new }
+    ensures writes { (K.faults sink.old ≤ K.faults sink.new) × (K.stalls sink.old ≤ K.stalls sink.new) }
+
+    ensures telling { L.tells link.old → L.tells link.new }
+    ensures is_log { L.tells link.old → IsLog (L.log link.old) → IsLog (L.log link.new) }
+    ensures plainly { L.plain link.old → L.plain link.new }
+{
+    match connection.next(alloc, source) {
+        Ok(Next::Ready(request)) => {
+            let close = closes(&request, close);
+            match exchange(alloc, connection, sink, link, last, clock, &request, close) {
+                Ok(()) => Ok(true),
+                Err(e) => Err(e),
+            }
+        }
+        Ok(Next::Continue) => Ok(false),
+        Ok(Next::End) => Ok(false),
+        Ok(Next::CutShort) => Ok(false),
+        Ok(Next::Bad(reply)) => match refuse(alloc, connection, sink, &reply) {
+            Ok(()) => Ok(false),
+            Err(e) => Err(e),
+        },
+        Err(e) => Err(e),
+    }
+}
+
+/// Serves the requests of a source in turn.
+pub(crate) fn serve<S: Source, K: Sink, L: Link, C: Clock>(
+    alloc: Global,
+    source: &mut S,
+    sink: &mut K,
+    link: &mut L,
+    last: &mut u64,
+    clock: &mut C,
+) -> Result<(), ConnNo>
+    ensures output { OnOk result (L.tells link.old → IsLog (L.log link.old) → (idle : ℕ) (advertise : List ℕ)
+        → ServesAll idle (L.plain link.old) advertise (at_rest last.old) (L.log link.old) (S.left source.old) (K.held sink.old) (K.held sink.new) (L.log link.new) (at_rest last.new)) }
+    ensures lost { result ≡ Err ReadFault → L.tells link.old → IsLog (L.log link.old) → (idle : ℕ) (advertise : List ℕ)
+        → ServesSome idle (L.plain link.old) advertise (at_rest last.old) (L.log link.old) (S.left source.old) (S.left source.new) (K.held sink.old) (K.held sink.new) (L.log link.new) (at_rest last.new) }
+    ensures cut { (n : ℕ) → result ≡ Err (WriteFault n) → L.tells link.old → IsLog (L.log link.old) → (idle : ℕ) (advertise : List ℕ)
+        → ServesUntil idle (L.plain link.old) advertise (at_rest last.old) (L.log link.old) (S.left source.old) (K.held sink.old) (K.held sink.new) n (L.log link.new) (at_rest last.new) }
+    ensures starved { result ≡ Err WantConn → L.tells link.old → IsLog (L.log link.old) → (idle : ℕ) (advertise : List ℕ)
+        → ServesFirst idle (L.plain link.old) advertise (at_rest last.old) (L.log link.old) (S.left source.old) (K.held sink.old) (K.held sink.new) (L.log link.new) (at_rest last.new) }
+
+    ensures read { result ≡ Err ReadFault → Rose (S.faults source.old) (S.faults source.new) }
+    ensures write { (n : ℕ) → result ≡ Err (WriteFault n) → Rose (K.faults sink.old) (K.faults sink.new) ⊎ Rose (K.stalls sink.old) (K.stalls sink.new) }
+{
+    let mut connection = match Connection::new(alloc) {
+        Ok(connection) => connection,
+        Err(Want) => return Err(ConnNo::Want),
+    };
+    for count in 0..MAX_REQUESTS {
+        let close = count + 1 == MAX_REQUESTS;
+        match serve_one(
+            alloc,
+            &mut connection,
+            source,
+            sink,
+            link,
+            last,
+            clock,
+            close,
+        ) {
+            Ok(true) => {}
+            Ok(false) => return Ok(()),
+            Err(e) => return Err(e),
+        }
+    }
+    Ok(())
+}
