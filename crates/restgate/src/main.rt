@@ -3,17 +3,25 @@
 
 use gate_io::{RealClock, Stderr, Stdin, Stdout};
 use proxy_cli::run;
+use std::io::ErrorKind;
 use std::process::ExitCode;
 use std::{env, io};
 
 fn main(rt: HostRuntime) -> io::Result<ExitCode> {
-    let Ok(args) = env::args(&rt) else {
-        return Ok(ExitCode::from(2));
-    };
     let mut words = Vec::new(rt.alloc());
-    for word in args.skip(1) {
-        if words.push(word).is_err() {
-            return Ok(ExitCode::from(7));
+    match env::args(&rt) {
+        Ok(args) => {
+            for word in args.skip(1) {
+                if words.push(word).is_err() {
+                    return Ok(ExitCode::from(7));
+                }
+            }
+        }
+        Err(e) => {
+            if e.kind() == ErrorKind::OutOfMemory {
+                return Ok(ExitCode::from(7));
+            }
+            // A word that isn't UTF-8: no words are given on, which don't read either.
         }
     }
     let mut source = Stdin::new(rt.stdin());
