@@ -1,8 +1,7 @@
 -- Look-ups by number, as the code finds them.
-use Rattle.std.proofs.Common.{◌≡◌, ℕ, zero, suc, ◌+◌, ◌<◌, Bool, true, false, List, [], ◌∷◌, ◌++◌, length, map, drop, get_or, refl, ap, sym, ◌∙◌, arith, Option, Some, None}
+use Rattle.std.proofs.Common.{◌≡◌, ℕ, zero, suc, ◌+◌, ◌<◌, Bool, true, false, List, [], ◌∷◌, ◌++◌, length, map, get_or, refl, ap, sym, ◌∙◌, arith, Option, Some, None}
 use Rattle.std.specs.Prelude.{◌==◌, ℤ, pos, nat_abs, slice_set}
 use Rattle.std.specs.List.{position}
-use Rattle.std.proofs.lemmas.List.{drop_more}
 use Rattle.std.proofs.lemmas.List.Quantifiers.{position-Some}
 use Rattle.std.proofs.lemmas.Bool.Decides.{nat_tests}
 use Rattle.std.proofs.lemmas.Grind.{common_steps}
@@ -10,7 +9,7 @@ use Rattle.model.specs.Entry.{Payload}
 use Rattle.broker_link.specs.declared.link.PartRecords.{PartRecords}
 use Rattle.producer.specs.declared.told.Cursor.{Cursor}
 use Rattle.rest_calls.specs.declared.call.Row.{Row}
-use Rattle.producer.specs.Grouped.{new_of, put_in, grouped, code_at, next_at, bump, bumped}
+use Rattle.producer.specs.Grouped.{new_of, put_in, code_at, next_at, bump, bumped}
 use Rattle.model.specs.Produced.{chosen}
 use Rattle.model.specs.Produced.{or_named, partition_of}
 use Rattle.rest_calls.specs.Views.{given_of, bytes_of, NamesPartition}
@@ -98,12 +97,6 @@ part_none p (x ∷ xs) is =
     let e : (nat_abs x.partition == p.partition) ≡ false = both.0 in
     let ih = part_none p xs both.1 in
     rw e (ap (λ l. x ∷ l) ih)
-
-pub grouped_next : (parts : List PartRecords) (records : List Row) (i : ℕ) (r : Row) → i < length records → r ≡ get_or records i r
-    → grouped parts (map payload_of (drop i records)) ≡ grouped (put_in (payload_of r) parts) (map payload_of (drop (i + 1) records))
-grouped_next parts records i r lt here =
-    let more : drop i records ≡ r ∷ drop (i + 1) records = drop_more records i r lt ∙ ap (λ (x : Row). x ∷ drop (i + 1) records) (sym here) in
-    ap (λ (l : List Row). grouped parts (map payload_of l)) more
 
 pub numbers_are : (rows : List Row) → map number_in rows ≡ map (λ (p : Payload). p.partition) (map payload_of rows)
 numbers_are [] = refl

@@ -1,9 +1,9 @@
-ghost use Rattle.std.specs.Prelude.{◌≡◌, ◌==◌, ◌<◌, ◌^◌, ℕ, pos, nat_abs, Option, List, [], ◌∷◌, map, length, All, IfOk, OnOk, OnErr, IfSome};
+ghost use Rattle.std.specs.Prelude.{◌≡◌, ◌==◌, ◌<◌, ◌^◌, ℕ, pos, nat_abs, Option, List, [], ◌∷◌, map, length, reverse, All, IfOk, OnOk, OnErr, IfSome};
 ghost use Rattle.std.specs.List.{position};
 ghost use Rattle.model.specs.Entry.{Payload as Item};
 ghost use Rattle.broker_link.specs.declared.link.PartRecords.{PartRecords as Part};
 ghost use Rattle.rest_calls.specs.Views.{bytes_of, NamesPartition};
-ghost use Rattle.producer.specs.Grouped.{grouped, put_in};
+ghost use Rattle.producer.specs.Grouped.{grouped, new_of, put_in};
 ghost use Rattle.producer.specs.Payloads.{number_in, payload_of};
 
 use broker_link::{NewRecord, PartRecords};
@@ -31,15 +31,21 @@ fn place_of(parts: &[PartRecords], number: u32) -> Option<usize>
         .position(|p| p.partition.unsigned_abs() == number)
 }
 
-fn copied(alloc: Global, payload: &Payload) -> Result<Option<Items<u8>>, AllocError>
-    ensures { IfOk result (λ copy. copy ≡ bytes_of payload.now) }
+fn stored(payload: Payload) -> Option<Items<u8>>
+    ensures { result ≡ bytes_of payload }
 {
     match payload {
-        Payload::Null => Ok(None),
-        Payload::Ready(items) => {
-            let copy = Items::from_slice(alloc, items.as_slice())?;
-            Ok(Some(copy))
-        }
+        Payload::Null => None,
+        Payload::Ready(bytes) => Some(bytes),
+    }
+}
+
+fn new_record(row: Row) -> NewRecord
+    ensures { result ≡ new_of (payload_of row) }
+{
+    NewRecord {
+        key: stored(row.key),
+        value: stored(row.value),
     }
 }
 
@@ -75,16 +81,26 @@ fn put_record(
     Ok(())
 }
 
-/// The records by partition, in request order within each.
-pub(crate) fn group(alloc: Global, rows: &[Row]) -> Result<Vec<PartRecords>, AllocError>
-    requires named { All NamesPartition rows.now }
-    ensures { IfOk result (λ parts. parts.items ≡ grouped [] (map payload_of rows.now)) }
+/// The records with the last one first.
+fn turned(alloc: Global, mut rows: Items<Row>) -> Result<Vec<Row>, AllocError>
+    ensures { IfOk result (λ turned. reverse turned.items ≡ rows) }
 {
+    let mut turned = Vec::with_capacity(alloc, rows.len())?;
+    while let Some(row) = rows.pop() {
+        turned.push(row)?;
+    }
+    Ok(turned)
+}
+
+/// The records by partition, in request order within each. Keys and values are moved.
+pub(crate) fn group(alloc: Global, rows: Items<Row>) -> Result<Vec<PartRecords>, AllocError>
+    requires named { All NamesPartition rows }
+    ensures { IfOk result (λ parts. parts.items ≡ grouped [] (map payload_of rows)) }
+{
+    let mut left = turned(alloc, rows)?;
     let mut parts = Vec::new(alloc);
-    for row in rows {
-        let key = copied(alloc, &row.key)?;
-        let value = copied(alloc, &row.value)?;
-        put_record(alloc, &mut parts, number_of(row), NewRecord { key, value })?;
+    while let Some(row) = left.pop() {
+        put_record(alloc, &mut parts, number_of(&row), new_record(row))?;
     }
     Ok(parts)
 }

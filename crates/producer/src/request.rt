@@ -45,12 +45,12 @@ pub fn produce<L: Link>(
     now: u64,
     link: &mut L,
     topic: &str,
-    batch: &Batch,
+    batch: Batch,
 ) -> Result<Items<Told>, ProduceNo>
-    requires some { 0 < length batch.now.rows }
-    requires few { length batch.now.rows < 2 ^ 63 }
-    requires named { All NamesPartition batch.now.rows }
-    ensures ends { L.tells link.old → IsLog (L.log link.old) → ProduceEnds (L.log link.old) (L.log link.new) topic.now (batch_of batch.now) (Some (reply_of result)) }
+    requires some { 0 < length batch.rows }
+    requires few { length batch.rows < 2 ^ 63 }
+    requires named { All NamesPartition batch.rows }
+    ensures ends { L.tells link.old → IsLog (L.log link.old) → ProduceEnds (L.log link.old) (L.log link.new) topic.now (batch_of batch) (Some (reply_of result)) }
 
     ensures apart { result ≢ Err (LinkFailed LinkWant) }
 
@@ -63,16 +63,15 @@ pub fn produce<L: Link>(
     ensures good { L.plain link.old → L.tells link.old → IsLog (L.log link.old) → IsGood (reply_of result) }
     ensures alone { L.plain link.old → (L.log link.new).others ≡ (L.log link.old).others }
 {
-    let rows = batch.rows.as_slice();
     let count = match count_parts(alloc, link, topic) {
         Ok(Some(count)) => count,
         Ok(None) => return Err(ProduceNo::NoTopic),
         Err(e) => return Err(failed(e)),
     };
-    if !are_within(rows, count) {
+    if !are_within(batch.rows.as_slice(), count) {
         return Err(ProduceNo::NoPartition);
     }
-    match store(alloc, now, link, topic, rows) {
+    match store(alloc, now, link, topic, batch.rows) {
         Ok(told) => Ok(told),
         Err(e) => Err(failed(e)),
     }

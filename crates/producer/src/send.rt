@@ -20,11 +20,11 @@ use gate_io::Items;
 use rest_calls::Row;
 use std::alloc::{AllocError, Global};
 
-fn numbers_of(alloc: Global, rows: &[Row]) -> Result<Vec<u32>, AllocError>
+fn numbers_of(alloc: Global, rows: &Items<Row>) -> Result<Vec<u32>, AllocError>
     ensures { IfOk result (λ numbers. numbers.items ≡ map number_in rows.now) }
 {
     let mut numbers = Vec::with_capacity(alloc, rows.len())?;
-    for row in rows {
+    for row in rows.as_slice() {
         numbers.push(number_of(row))?;
     }
     Ok(numbers)
@@ -36,25 +36,25 @@ pub(crate) fn store<L: Link>(
     now: u64,
     link: &mut L,
     topic: &str,
-    rows: &[Row],
+    rows: Items<Row>,
 ) -> Result<Items<Told>, LinkNo>
-    requires some { 0 < length rows.now }
-    requires few { length rows.now < 2 ^ 63 }
-    requires named { All NamesPartition rows.now }
+    requires some { 0 < length rows }
+    requires few { length rows < 2 ^ 63 }
+    requires named { All NamesPartition rows }
     ensures telling { L.tells link.old → L.tells link.new }
     ensures keeps { L.tells link.old → Keeps (L.log link.old) (L.log link.new) × SameCommits (L.log link.old) (L.log link.new) }
     ensures is_log { L.tells link.old → IsLog (L.log link.old) → IsLog (L.log link.new) }
-    ensures answered { L.tells link.old → IfOk result (λ told. Answered (L.log link.old) (L.log link.new) topic.now (map payload_of rows.now) (map placed_of told)) }
-    ensures unknown { L.tells link.old → OnErr result (Unknown (L.log link.old) (L.log link.new) topic.now (map payload_of rows.now)) }
+    ensures answered { L.tells link.old → IfOk result (λ told. Answered (L.log link.old) (L.log link.new) topic.now (map payload_of rows) (map placed_of told)) }
+    ensures unknown { L.tells link.old → OnErr result (Unknown (L.log link.old) (L.log link.new) topic.now (map payload_of rows)) }
     ensures cause { HasCause (L.counts link.old) (L.counts link.new) result }
-    ensures whose { IfOk result (λ told. map (λ t. t.partition) told ≡ map number_in rows.now) }
+    ensures whose { IfOk result (λ told. map (λ t. t.partition) told ≡ map number_in rows) }
     ensures lacked { L.plain link.old → L.tells link.old → IfOk result (All (TellsPlainly (L.log link.old) topic.now)) }
     ensures codes { IfOk result (λ told. list_any is_failed (map placed_of told) ≡ true → Rose (L.counts link.old).refusals (L.counts link.new).refusals) }
     ensures alone { L.plain link.old → (L.log link.new).others ≡ (L.log link.old).others }
     ensures plainly { L.plain link.old → L.plain link.new × IfErr result (λ e. e ≡ Want) }
 {
+    let numbers = numbers_of(alloc, &rows)?;
     let parts = group(alloc, rows)?;
-    let numbers = numbers_of(alloc, rows)?;
     let placed = link.produce(alloc, now, topic, parts.as_slice())?;
     let told = tell(alloc, numbers.as_slice(), placed.as_slice())?;
     Ok(told)

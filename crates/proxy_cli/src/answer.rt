@@ -21,13 +21,13 @@ fn serve_produce<L: Link, C: Clock>(
     last: &mut u64,
     clock: &mut C,
     topic: &str,
-    batch: &Batch,
+    batch: Batch,
 ) -> Reply
-    requires some { 0 < length batch.now.rows }
-    requires few { length batch.now.rows < 2 ^ 63 }
-    requires named { All NamesPartition batch.now.rows }
+    requires some { 0 < length batch.rows }
+    requires few { length batch.rows < 2 ^ 63 }
+    requires named { All NamesPartition batch.rows }
     ensures stepped { L.tells link.old → IsLog (L.log link.old) → (idle : ℕ) (advertise : List ℕ)
-        → IsStep idle (L.plain link.old) advertise (Produce topic.now (batch_of batch.now)) last.old (L.log link.old) result (L.log link.new) last.new }
+        → IsStep idle (L.plain link.old) advertise (Produce topic.now (batch_of batch)) last.old (L.log link.old) result (L.log link.new) last.new }
 
     ensures telling { L.tells link.old → L.tells link.new }
     ensures is_log { L.tells link.old → IsLog (L.log link.old) → IsLog (L.log link.new) }
@@ -56,7 +56,7 @@ pub(crate) fn answer<L: Link, C: Clock>(
 {
     match call_of(alloc, request) {
         Ok(Call::Produce { topic, batch }) => {
-            serve_produce(alloc, link, last, clock, topic.as_str(), &batch)
+            serve_produce(alloc, link, last, clock, topic.as_str(), batch)
         }
         Err(reply) => reply,
     }

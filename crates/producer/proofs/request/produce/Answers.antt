@@ -1,7 +1,5 @@
-use Rattle.std.proofs.Common.{◌≡◌, List, map, ap, sym, subst, ◌∙◌, Some, true, false}
-use Rattle.std.specs.Prelude.{All}
+use Rattle.std.proofs.Common.{◌≡◌, List, map, ap, sym, ◌∙◌, Some, true, false}
 use Rattle.model.specs.Log.{Log}
-use Rattle.rest_calls.specs.Views.{NamesPartition}
 use Rattle.rest_calls.specs.declared.call.Row.{Row}
 use Rattle.model.specs.Produced.{Answered, Unknown}
 use Rattle.producer.specs.Counted.{are_within, IsCount}
@@ -16,7 +14,7 @@ returns-in-Ok-None-clause-ends g c = λ tells is.
     let a : Log = g.L.Link.log c.args.link.now in
     let m : Log = g.L.Link.log c.count_parts.new.link in
     let keeps = c.count_parts.ensures.keeps tells in
-    ends_unknown_topic a m c.args.topic.now c.args.batch.now keeps.0 keeps.1 (rw c.in-Ok-None.field-0-is at (c.in-Ok-None.ensures.counted tells is))
+    ends_unknown_topic a m c.args.topic.now c.args.batch keeps.0 keeps.1 (rw c.in-Ok-None.field-0-is at (c.in-Ok-None.ensures.counted tells is))
 
 pub returns-then-not-are_within-clause-ends : goal.returns-then-not-are_within-clause-ends
 returns-then-not-are_within-clause-ends g c = λ tells is.
@@ -24,11 +22,8 @@ returns-then-not-are_within-clause-ends g c = λ tells is.
     let m : Log = g.L.Link.log c.count_parts.new.link in
     let keeps = c.count_parts.ensures.keeps tells in
     let count : IsCount m c.args.topic.now (Some c.in-Ok-Some.count) = rw c.in-Ok-Some.field-0-is at (c.in-Ok-Some.ensures.counted tells is) in
-    let out : are_within c.in-Ok-Some.count c.args.batch.now.rows ≡ false = ap (λ (rs : List Row). are_within c.in-Ok-Some.count rs) (sym c.as_slice-rows.ensures) ∙ (sym c.are_within.ensures ∙ c.if-not-are_within.true) in
-    ends_unknown_partition a m c.args.topic.now c.args.batch.now c.in-Ok-Some.count keeps.0 keeps.1 count out
-
-pub store-requires-clause-named : goal.store-requires-clause-named
-store-requires-clause-named g c = subst (λ (rs : List Row). All NamesPartition rs) (sym c.as_slice-rows.ensures) c.requires.named
+    let out : are_within c.in-Ok-Some.count c.args.batch.rows ≡ false = ap (λ (rs : List Row). are_within c.in-Ok-Some.count rs) (sym c.as_slice.ensures) ∙ (sym c.are_within.ensures ∙ c.if-not-are_within.true) in
+    ends_unknown_partition a m c.args.topic.now c.args.batch c.in-Ok-Some.count keeps.0 keeps.1 count out
 
 pub returns-in-Ok-clause-ends : goal.returns-in-Ok-clause-ends
 returns-in-Ok-clause-ends g c = λ tells is.
@@ -38,11 +33,11 @@ returns-in-Ok-clause-ends g c = λ tells is.
     let keeps = c.count_parts.ensures.keeps tells in
     let told_still = c.count_parts.ensures.telling tells in
     let count : IsCount m c.args.topic.now (Some c.in-Ok-Some.count) = rw c.in-Ok-Some.field-0-is at (c.in-Ok-Some.ensures.counted tells is) in
-    let rows : c.as_slice-rows.result.now ≡ c.args.batch.now.rows = c.as_slice-rows.ensures in
-    let inside : are_within c.in-Ok-Some.count c.args.batch.now.rows ≡ true = ap (λ (rs : List Row). are_within c.in-Ok-Some.count rs) (sym rows) ∙ (sym c.are_within.ensures ∙ c.if-not-are_within.false) in
-    let answered : Answered m b c.args.topic.now (map payload_of c.args.batch.now.rows) (map placed_of c.in-Ok.told) =
-    subst (λ (rs : List Row). Answered m b c.args.topic.now (map payload_of rs) (map placed_of c.in-Ok.told)) rows (c.in-Ok.ensures.answered told_still) in
-    ends_answered a m b c.args.topic.now c.args.batch.now c.in-Ok-Some.count c.in-Ok.told keeps.0 keeps.1 count inside c.requires.named answered
+    let rows : c.as_slice.result.now ≡ c.args.batch.rows = c.as_slice.ensures in
+    let inside : are_within c.in-Ok-Some.count c.args.batch.rows ≡ true = ap (λ (rs : List Row). are_within c.in-Ok-Some.count rs) (sym rows) ∙ (sym c.are_within.ensures ∙ c.if-not-are_within.false) in
+    let answered : Answered m b c.args.topic.now (map payload_of c.args.batch.rows) (map placed_of c.in-Ok.told) =
+    c.in-Ok.ensures.answered told_still in
+    ends_answered a m b c.args.topic.now c.args.batch c.in-Ok-Some.count c.in-Ok.told keeps.0 keeps.1 count inside c.requires.named answered
 
 pub returns-in-Ok-clause-keeps : goal.returns-in-Ok-clause-keeps
 returns-in-Ok-clause-keeps g c = λ tells.
@@ -58,10 +53,10 @@ returns-in-Ok-clause-good g c = λ plain tells is.
     let keeps = c.count_parts.ensures.keeps tells in
     let told_still = c.count_parts.ensures.telling tells in
     let count : IsCount m c.args.topic.now (Some c.in-Ok-Some.count) = rw c.in-Ok-Some.field-0-is at (c.in-Ok-Some.ensures.counted tells is) in
-    let rows : c.as_slice-rows.result.now ≡ c.args.batch.now.rows = c.as_slice-rows.ensures in
-    let inside : are_within c.in-Ok-Some.count c.args.batch.now.rows ≡ true = ap (λ (rs : List Row). are_within c.in-Ok-Some.count rs) (sym rows) ∙ (sym c.are_within.ensures ∙ c.if-not-are_within.false) in
-    let whose : map (λ (t : Told). t.partition) c.in-Ok.told ≡ map number_in c.args.batch.now.rows = c.in-Ok.ensures.whose ∙ ap (λ (rs : List Row). map number_in rs) rows in
-    all_stored m c.args.topic.now c.in-Ok-Some.count c.in-Ok.told c.args.batch.now.rows count.1 (c.in-Ok.ensures.lacked (c.count_parts.ensures.plainly plain).0 told_still) whose inside
+    let rows : c.as_slice.result.now ≡ c.args.batch.rows = c.as_slice.ensures in
+    let inside : are_within c.in-Ok-Some.count c.args.batch.rows ≡ true = ap (λ (rs : List Row). are_within c.in-Ok-Some.count rs) (sym rows) ∙ (sym c.are_within.ensures ∙ c.if-not-are_within.false) in
+    let whose : map (λ (t : Told). t.partition) c.in-Ok.told ≡ map number_in c.args.batch.rows = c.in-Ok.ensures.whose in
+    all_stored m c.args.topic.now c.in-Ok-Some.count c.in-Ok.told c.args.batch.rows count.1 (c.in-Ok.ensures.lacked (c.count_parts.ensures.plainly plain).0 told_still) whose inside
 
 pub returns-in-Err-store-clause-ends : goal.returns-in-Err-store-clause-ends
 returns-in-Err-store-clause-ends g c = λ tells is.
@@ -71,11 +66,11 @@ returns-in-Err-store-clause-ends g c = λ tells is.
     let keeps = c.count_parts.ensures.keeps tells in
     let told_still = c.count_parts.ensures.telling tells in
     let count : IsCount m c.args.topic.now (Some c.in-Ok-Some.count) = rw c.in-Ok-Some.field-0-is at (c.in-Ok-Some.ensures.counted tells is) in
-    let rows : c.as_slice-rows.result.now ≡ c.args.batch.now.rows = c.as_slice-rows.ensures in
-    let inside : are_within c.in-Ok-Some.count c.args.batch.now.rows ≡ true = ap (λ (rs : List Row). are_within c.in-Ok-Some.count rs) (sym rows) ∙ (sym c.are_within.ensures ∙ c.if-not-are_within.false) in
-    let unknown : Unknown m b c.args.topic.now (map payload_of c.args.batch.now.rows) =
-    subst (λ (rs : List Row). Unknown m b c.args.topic.now (map payload_of rs)) rows (c.in-Err-store.ensures.unknown told_still) in
-    ends_failed a m b c.args.topic.now c.args.batch.now c.in-Ok-Some.count (g.L.Link.counts c.count_parts.new.link) (g.L.Link.counts c.store.new.link) c.in-Err-store.e _ keeps.0 keeps.1 count inside
+    let rows : c.as_slice.result.now ≡ c.args.batch.rows = c.as_slice.ensures in
+    let inside : are_within c.in-Ok-Some.count c.args.batch.rows ≡ true = ap (λ (rs : List Row). are_within c.in-Ok-Some.count rs) (sym rows) ∙ (sym c.are_within.ensures ∙ c.if-not-are_within.false) in
+    let unknown : Unknown m b c.args.topic.now (map payload_of c.args.batch.rows) =
+    c.in-Err-store.ensures.unknown told_still in
+    ends_failed a m b c.args.topic.now c.args.batch c.in-Ok-Some.count (g.L.Link.counts c.count_parts.new.link) (g.L.Link.counts c.store.new.link) c.in-Err-store.e _ keeps.0 keeps.1 count inside
     c.requires.named unknown c.in-Err-store.ensures.cause.cause c.failed-in-Err-store.ensures.reply
 
 pub returns-in-Err-store-clause-keeps : goal.returns-in-Err-store-clause-keeps
