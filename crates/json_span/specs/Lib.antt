@@ -1,0 +1,13 @@
+pub mod Json
+pub mod Number
+pub mod Chars
+pub mod Text
+pub mod Refusals
+pub mod Scans
+pub mod Ahead
+pub mod Reading
+pub mod Tree
+pub mod Steps
+pub mod Nodes
+pub mod Integer
+pub mod Grammar

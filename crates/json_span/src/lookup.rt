@@ -1,0 +1,104 @@
+ghost use Rattle.std.specs.Prelude.{◌≡◌, ◌-◌, ◌<◌, ◌≤◌, ℕ, List, All, length, take, drop};
+ghost use Rattle.json_span.specs.Json.{Json, Items, Members, text, array, object, number, IsWithin};
+ghost use Rattle.json_span.specs.Chars.{content};
+ghost use Rattle.json_span.specs.Integer.{integer_of};
+ghost use Rattle.json_span.specs.Text.{compact, IsText};
+ghost use Rattle.json_span.specs.Nodes.{Stands, StandForItems, StandForMembers, HasNode, root_of, kind_of, IsOfKind};
+
+use crate::integer::integer;
+use crate::tree::{Form, Kind, Member, Tree};
+
+fn part(source: &Vec<u8>, start: usize, end: usize) -> &[u8]
+    requires order { start ≤ end }
+    requires inside { end ≤ length source.now.items }
+    ensures { result.now ≡ take (end - start) (drop start source.now.items) }
+{
+    &source.as_slice()[start..end]
+}
+
+impl Tree {
+    /// The node of the whole text.
+    pub fn root(&self) -> u32
+        ensures { result ≡ root_of self.now }
+    {
+        self.root
+    }
+
+    /// What the node is.
+    pub fn kind(&self, node: u32) -> Kind
+        requires { HasNode self.now node }
+        ensures value { (j : Json) → Stands self.now node j → result ≡ kind_of j }
+        ensures is { IsOfKind self.now node result }
+    {
+        match &self.nodes[node as usize].form {
+            Form::Null => Kind::Null,
+            Form::Bool(value) => Kind::Bool(*value),
+            Form::Number => Kind::Number,
+            Form::Plain => Kind::Text,
+            Form::Escaped(_) => Kind::Text,
+            Form::Array(_) => Kind::Array,
+            Form::Object(_) => Kind::Object,
+        }
+    }
+
+    /// The members of an object in the order of the text, repeats included.
+    pub fn members(&self, node: u32) -> &[Member]
+        requires { (ms : Members) × Stands self.now node (object ms) }
+        ensures value { (ms : Members) → Stands self.now node (object ms) → StandForMembers self.now result.now ms }
+        ensures below { All (λ m. m.node < node) result.now }
+    {
+        match &self.nodes[node as usize].form {
+            Form::Object(members) => members.as_slice(),
+            _ => &[],
+        }
+    }
+
+    /// The nodes of an array's items in the order of the text.
+    pub fn items(&self, node: u32) -> &[u32]
+        requires { (js : Items) × Stands self.now node (array js) }
+        ensures value { (js : Items) → Stands self.now node (array js) → StandForItems self.now result.now js }
+        ensures below { All (λ item. item < node) result.now }
+    {
+        match &self.nodes[node as usize].form {
+            Form::Array(items) => items.as_slice(),
+            _ => &[],
+        }
+    }
+
+    /// The node's source text without white space between tokens.
+    pub fn text_of(&self, node: u32) -> &str
+        requires { HasNode self.now node }
+        ensures value { (j : Json) → Stands self.now node j → result.now ≡ compact j }
+        // Read again, it has the same value.
+        ensures again { (j : Json) → Stands self.now node j → (levels : ℕ) → IsWithin levels j
+            → IsText levels result.now j }
+    {
+        let found = &self.nodes[node as usize];
+        let bytes = part(&self.source, found.start, found.end);
+        unsafe { std::str::from_utf8_unchecked(bytes) }
+    }
+
+    /// A text without its quotes and escapes.
+    pub fn string_of(&self, node: u32) -> &str
+        requires { (s : List ℕ) × Stands self.now node (text s) }
+        ensures { (s : List ℕ) → Stands self.now node (text s) → result.now ≡ content s }
+    {
+        let found = &self.nodes[node as usize];
+        match &found.form {
+            Form::Escaped(text) => text.as_str(),
+            _ => {
+                let bytes = part(&self.source, found.start + 1, found.end - 1);
+                unsafe { std::str::from_utf8_unchecked(bytes) }
+            }
+        }
+    }
+
+    /// The number as an integer, where it has no fraction, no exponent and at most 38 digits.
+    pub fn int_of(&self, node: u32) -> Option<i128>
+        requires { (s : List ℕ) × Stands self.now node (number s) }
+        ensures { (s : List ℕ) → Stands self.now node (number s) → result ≡ integer_of s }
+    {
+        let found = &self.nodes[node as usize];
+        integer(part(&self.source, found.start, found.end))
+    }
+}

@@ -1,0 +1,69 @@
+ghost use Rattle.std.specs.Prelude.{◌≡◌, ◌+◌, ◌≤◌, ◌++◌, [], ◌∷◌, length, IfOk, IfErr};
+
+use crate::error::JsonNo;
+use gate_io::Text;
+
+/// What a node is.
+#[derive(Clone, Copy, Debug, PartialEq, Eq)]
+pub enum Kind {
+    Null,
+    Bool(bool),
+    Number,
+    Text,
+    Array,
+    Object,
+}
+
+/// A member of an object: its name without escapes, and the node of its value.
+#[derive(Debug, Drop)]
+pub struct Member {
+    pub name: Text,
+    pub node: u32,
+}
+
+/// What a node keeps besides its source text. A text without escapes is its source text between the quotes.
+#[derive(Debug, Drop)]
+pub(crate) enum Form {
+    Null,
+    Bool(bool),
+    Number,
+    Plain,
+    Escaped(Text),
+    Array(Vec<u32>),
+    Object(Vec<Member>),
+}
+
+/// A value: where its source text begins and ends in the tree's text.
+#[derive(Debug, Drop)]
+pub(crate) struct Node {
+    pub(crate) start: usize,
+    pub(crate) end: usize,
+    pub(crate) form: Form,
+}
+
+/// A JSON value as a flat list of nodes, each behind its parts; the last is the root.
+#[derive(Debug, Drop)]
+pub struct Tree {
+    pub(crate) nodes: Vec<Node>,
+    pub(crate) source: Vec<u8>,
+    pub(crate) root: u32,
+}
+
+impl Tree {
+    /// Makes a node whose source text begins at `start` and ends with the text so far.
+    pub(crate) fn add(&mut self, start: usize, form: Form) -> Result<u32, JsonNo>
+        ensures source { self.new.source.items ≡ self.old.source.items }
+        ensures ok { IfOk result (λ k. (k ≡ length self.old.nodes.items) × (self.new.nodes.items
+            ≡ self.old.nodes.items ++ (record { start = start; end = length self.old.source.items; form = form } ∷ []))) }
+        ensures want { IfErr result (λ e. e ≡ JsonNo.Want) }
+    {
+        let Ok(node) = u32::try_from(self.nodes.len()) else {
+            return Err(JsonNo::Want);
+        };
+        let end = self.source.len();
+        match self.nodes.push(Node { start, end, form }) {
+            Ok(()) => Ok(node),
+            Err(_) => Err(JsonNo::Want),
+        }
+    }
+}
