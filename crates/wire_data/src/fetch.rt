@@ -1,0 +1,307 @@
+//! Fetch, version 4.
+ghost use Rattle.std.specs.Prelude.{IfOk};
+ghost use Rattle.wire_layout.specs.Whole.{IsRead, IsWritten};
+ghost use Rattle.wire_data.specs.Fetch.{fetch_request, fetch_request_laid, fetch_request_row, fetch_request_row_laid, fetch_request_row_row, fetch_request_row_row_laid, fetch_response, fetch_response_laid, fetch_response_row, fetch_response_row_laid, fetch_response_row_row, fetch_response_row_row_laid, fetch_response_row_row_row, fetch_response_row_row_row_laid};
+
+use gate_io::{Items, Text, Want};
+use std::alloc::Global;
+use wire_layout::{
+    Laid, WireNo, put_nullable_piece, read_nullable_piece, read_whole, size_of_nullable_piece,
+    write_whole,
+};
+use wire_prim::{Cursor, PrimNo};
+
+/// Asks for batches of partitions. The wait is in milliseconds.
+#[derive(Drop)]
+pub struct FetchRequest {
+    pub replica: i32,
+    pub max_wait_ms: i32,
+    pub min_bytes: i32,
+    pub max_bytes: i32,
+    pub isolation: i8,
+    pub rows: Items<FetchRequestRow>,
+}
+
+impl FetchRequest {
+    /// Reads a body.
+    pub fn read(alloc: Global, bytes: &[u8]) -> Result<FetchRequest, WireNo>
+        ensures { IsRead fetch_request bytes.now result }
+    {
+        read_whole(alloc, bytes)
+    }
+
+    /// Writes a body.
+    pub fn write(&self, alloc: Global) -> Result<Vec<u8>, Want>
+        ensures { IfOk result (λ out. IsWritten fetch_request 10 self.now out.items) }
+    {
+        write_whole(alloc, 10, self)
+    }
+}
+
+impl Laid for FetchRequest {
+    ghost layout = { fetch_request };
+
+    fn size(&self) -> usize {
+        self.replica
+            .size()
+            .saturating_add(self.max_wait_ms.size())
+            .saturating_add(self.min_bytes.size())
+            .saturating_add(self.max_bytes.size())
+            .saturating_add(self.isolation.size())
+            .saturating_add(self.rows.size())
+    }
+
+    fn put(&self, out: &mut Vec<u8>) -> Result<(), Want> {
+        self.replica.put(out)?;
+        self.max_wait_ms.put(out)?;
+        self.min_bytes.put(out)?;
+        self.max_bytes.put(out)?;
+        self.isolation.put(out)?;
+        self.rows.put(out)?;
+        Ok(())
+    }
+
+    fn read(alloc: Global, cursor: &mut Cursor) -> Result<FetchRequest, PrimNo> {
+        let replica = i32::read(alloc, cursor)?;
+        let max_wait_ms = i32::read(alloc, cursor)?;
+        let min_bytes = i32::read(alloc, cursor)?;
+        let max_bytes = i32::read(alloc, cursor)?;
+        let isolation = i8::read(alloc, cursor)?;
+        let rows = Items::read(alloc, cursor)?;
+        Ok(FetchRequest {
+            replica,
+            max_wait_ms,
+            min_bytes,
+            max_bytes,
+            isolation,
+            rows,
+        })
+    }
+
+    ghost laid = { fetch_request_laid };
+}
+
+/// A topic.
+#[derive(Drop)]
+pub struct FetchRequestRow {
+    pub name: Text,
+    pub rows: Items<FetchRequestRowRow>,
+}
+
+impl Laid for FetchRequestRow {
+    ghost layout = { fetch_request_row };
+
+    fn size(&self) -> usize {
+        self.name.size().saturating_add(self.rows.size())
+    }
+
+    fn put(&self, out: &mut Vec<u8>) -> Result<(), Want> {
+        self.name.put(out)?;
+        self.rows.put(out)?;
+        Ok(())
+    }
+
+    fn read(alloc: Global, cursor: &mut Cursor) -> Result<FetchRequestRow, PrimNo> {
+        let name = Text::read(alloc, cursor)?;
+        let rows = Items::read(alloc, cursor)?;
+        Ok(FetchRequestRow { name, rows })
+    }
+
+    ghost laid = { fetch_request_row_laid };
+}
+
+/// A partition, and the offset from which it is asked.
+#[derive(Drop)]
+pub struct FetchRequestRowRow {
+    pub partition: i32,
+    pub offset: i64,
+    pub max_bytes: i32,
+}
+
+impl Laid for FetchRequestRowRow {
+    ghost layout = { fetch_request_row_row };
+
+    fn size(&self) -> usize {
+        self.partition
+            .size()
+            .saturating_add(self.offset.size())
+            .saturating_add(self.max_bytes.size())
+    }
+
+    fn put(&self, out: &mut Vec<u8>) -> Result<(), Want> {
+        self.partition.put(out)?;
+        self.offset.put(out)?;
+        self.max_bytes.put(out)?;
+        Ok(())
+    }
+
+    fn read(alloc: Global, cursor: &mut Cursor) -> Result<FetchRequestRowRow, PrimNo> {
+        let partition = i32::read(alloc, cursor)?;
+        let offset = i64::read(alloc, cursor)?;
+        let max_bytes = i32::read(alloc, cursor)?;
+        Ok(FetchRequestRowRow {
+            partition,
+            offset,
+            max_bytes,
+        })
+    }
+
+    ghost laid = { fetch_request_row_row_laid };
+}
+
+/// The batches of partitions.
+#[derive(Drop)]
+pub struct FetchResponse {
+    pub throttle_ms: i32,
+    pub rows: Items<FetchResponseRow>,
+}
+
+impl FetchResponse {
+    /// Reads a body.
+    pub fn read(alloc: Global, bytes: &[u8]) -> Result<FetchResponse, WireNo>
+        ensures { IsRead fetch_response bytes.now result }
+    {
+        read_whole(alloc, bytes)
+    }
+
+    /// Writes a body.
+    pub fn write(&self, alloc: Global) -> Result<Vec<u8>, Want>
+        ensures { IfOk result (λ out. IsWritten fetch_response 4 self.now out.items) }
+    {
+        write_whole(alloc, 4, self)
+    }
+}
+
+impl Laid for FetchResponse {
+    ghost layout = { fetch_response };
+
+    fn size(&self) -> usize {
+        self.throttle_ms.size().saturating_add(self.rows.size())
+    }
+
+    fn put(&self, out: &mut Vec<u8>) -> Result<(), Want> {
+        self.throttle_ms.put(out)?;
+        self.rows.put(out)?;
+        Ok(())
+    }
+
+    fn read(alloc: Global, cursor: &mut Cursor) -> Result<FetchResponse, PrimNo> {
+        let throttle_ms = i32::read(alloc, cursor)?;
+        let rows = Items::read(alloc, cursor)?;
+        Ok(FetchResponse { throttle_ms, rows })
+    }
+
+    ghost laid = { fetch_response_laid };
+}
+
+/// A topic.
+#[derive(Drop)]
+pub struct FetchResponseRow {
+    pub name: Text,
+    pub rows: Items<FetchResponseRowRow>,
+}
+
+impl Laid for FetchResponseRow {
+    ghost layout = { fetch_response_row };
+
+    fn size(&self) -> usize {
+        self.name.size().saturating_add(self.rows.size())
+    }
+
+    fn put(&self, out: &mut Vec<u8>) -> Result<(), Want> {
+        self.name.put(out)?;
+        self.rows.put(out)?;
+        Ok(())
+    }
+
+    fn read(alloc: Global, cursor: &mut Cursor) -> Result<FetchResponseRow, PrimNo> {
+        let name = Text::read(alloc, cursor)?;
+        let rows = Items::read(alloc, cursor)?;
+        Ok(FetchResponseRow { name, rows })
+    }
+
+    ghost laid = { fetch_response_row_laid };
+}
+
+/// A partition and its batches, of which the last may be cut.
+#[derive(Drop)]
+pub struct FetchResponseRowRow {
+    pub partition: i32,
+    pub code: i16,
+    pub high_watermark: i64,
+    pub stable_offset: i64,
+    pub rows: Option<Items<FetchResponseRowRowRow>>,
+    pub batches: Option<Items<u8>>,
+}
+
+impl Laid for FetchResponseRowRow {
+    ghost layout = { fetch_response_row_row };
+
+    fn size(&self) -> usize {
+        self.partition
+            .size()
+            .saturating_add(self.code.size())
+            .saturating_add(self.high_watermark.size())
+            .saturating_add(self.stable_offset.size())
+            .saturating_add(self.rows.size())
+            .saturating_add(size_of_nullable_piece(&self.batches))
+    }
+
+    fn put(&self, out: &mut Vec<u8>) -> Result<(), Want> {
+        self.partition.put(out)?;
+        self.code.put(out)?;
+        self.high_watermark.put(out)?;
+        self.stable_offset.put(out)?;
+        self.rows.put(out)?;
+        put_nullable_piece(out, &self.batches)?;
+        Ok(())
+    }
+
+    fn read(alloc: Global, cursor: &mut Cursor) -> Result<FetchResponseRowRow, PrimNo> {
+        let partition = i32::read(alloc, cursor)?;
+        let code = i16::read(alloc, cursor)?;
+        let high_watermark = i64::read(alloc, cursor)?;
+        let stable_offset = i64::read(alloc, cursor)?;
+        let rows = Option::read(alloc, cursor)?;
+        let batches = read_nullable_piece(alloc, cursor)?;
+        Ok(FetchResponseRowRow {
+            partition,
+            code,
+            high_watermark,
+            stable_offset,
+            rows,
+            batches,
+        })
+    }
+
+    ghost laid = { fetch_response_row_row_laid };
+}
+
+/// A transaction that was aborted.
+#[derive(Drop)]
+pub struct FetchResponseRowRowRow {
+    pub producer: i64,
+    pub first: i64,
+}
+
+impl Laid for FetchResponseRowRowRow {
+    ghost layout = { fetch_response_row_row_row };
+
+    fn size(&self) -> usize {
+        self.producer.size().saturating_add(self.first.size())
+    }
+
+    fn put(&self, out: &mut Vec<u8>) -> Result<(), Want> {
+        self.producer.put(out)?;
+        self.first.put(out)?;
+        Ok(())
+    }
+
+    fn read(alloc: Global, cursor: &mut Cursor) -> Result<FetchResponseRowRowRow, PrimNo> {
+        let producer = i64::read(alloc, cursor)?;
+        let first = i64::read(alloc, cursor)?;
+        Ok(FetchResponseRowRowRow { producer, first })
+    }
+
+    ghost laid = { fetch_response_row_row_row_laid };
+}

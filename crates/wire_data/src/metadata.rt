@@ -1,0 +1,144 @@
+//! Metadata, version 1.
+ghost use Rattle.std.specs.Prelude.{IfOk};
+ghost use Rattle.wire_layout.specs.Whole.{IsRead, IsWritten};
+ghost use Rattle.wire_data.specs.Metadata.{metadata_request, metadata_request_laid, metadata_response_row, metadata_response_row_laid, metadata_response_row2_row, metadata_response_row2_row_laid};
+
+use gate_io::{Items, Text, Want};
+use std::alloc::Global;
+use wire_layout::{Laid, WireNo, read_whole, write_whole};
+use wire_prim::{Cursor, PrimNo};
+
+/// Asks for topics, all of them where it names none.
+#[derive(Drop)]
+pub struct MetadataRequest {
+    pub name: Option<Items<Text>>,
+}
+
+impl MetadataRequest {
+    /// Reads a body.
+    pub fn read(alloc: Global, bytes: &[u8]) -> Result<MetadataRequest, WireNo>
+        ensures { IsRead metadata_request bytes.now result }
+    {
+        read_whole(alloc, bytes)
+    }
+
+    /// Writes a body.
+    pub fn write(&self, alloc: Global) -> Result<Vec<u8>, Want>
+        ensures { IfOk result (λ out. IsWritten metadata_request 10 self.now out.items) }
+    {
+        write_whole(alloc, 10, self)
+    }
+}
+
+impl Laid for MetadataRequest {
+    ghost layout = { metadata_request };
+
+    fn size(&self) -> usize {
+        self.name.size()
+    }
+
+    fn put(&self, out: &mut Vec<u8>) -> Result<(), Want> {
+        self.name.put(out)?;
+        Ok(())
+    }
+
+    fn read(alloc: Global, cursor: &mut Cursor) -> Result<MetadataRequest, PrimNo> {
+        let name = Option::read(alloc, cursor)?;
+        Ok(MetadataRequest { name })
+    }
+
+    ghost laid = { metadata_request_laid };
+}
+
+/// A broker.
+#[derive(Drop)]
+pub struct MetadataResponseRow {
+    pub node: i32,
+    pub host: Text,
+    pub port: i32,
+    pub rack: Option<Text>,
+}
+
+impl Laid for MetadataResponseRow {
+    ghost layout = { metadata_response_row };
+
+    fn size(&self) -> usize {
+        self.node
+            .size()
+            .saturating_add(self.host.size())
+            .saturating_add(self.port.size())
+            .saturating_add(self.rack.size())
+    }
+
+    fn put(&self, out: &mut Vec<u8>) -> Result<(), Want> {
+        self.node.put(out)?;
+        self.host.put(out)?;
+        self.port.put(out)?;
+        self.rack.put(out)?;
+        Ok(())
+    }
+
+    fn read(alloc: Global, cursor: &mut Cursor) -> Result<MetadataResponseRow, PrimNo> {
+        let node = i32::read(alloc, cursor)?;
+        let host = Text::read(alloc, cursor)?;
+        let port = i32::read(alloc, cursor)?;
+        let rack = Option::read(alloc, cursor)?;
+        Ok(MetadataResponseRow {
+            node,
+            host,
+            port,
+            rack,
+        })
+    }
+
+    ghost laid = { metadata_response_row_laid };
+}
+
+/// A partition.
+#[derive(Drop)]
+pub struct MetadataResponseRow2Row {
+    pub code: i16,
+    pub partition: i32,
+    pub leader: i32,
+    pub replica: Items<i32>,
+    pub in_sync: Items<i32>,
+}
+
+impl Laid for MetadataResponseRow2Row {
+    ghost layout = { metadata_response_row2_row };
+
+    fn size(&self) -> usize {
+        self.code
+            .size()
+            .saturating_add(self.partition.size())
+            .saturating_add(self.leader.size())
+            .saturating_add(self.replica.size())
+            .saturating_add(self.in_sync.size())
+    }
+
+    fn put(&self, out: &mut Vec<u8>) -> Result<(), Want> {
+        self.code.put(out)?;
+        self.partition.put(out)?;
+        self.leader.put(out)?;
+        self.replica.put(out)?;
+        self.in_sync.put(out)?;
+        Ok(())
+    }
+
+    fn read(alloc: Global, cursor: &mut Cursor) -> Result<MetadataResponseRow2Row, PrimNo> {
+        let code = i16::read(alloc, cursor)?;
+        let partition = i32::read(alloc, cursor)?;
+        let leader = i32::read(alloc, cursor)?;
+        let replica = Items::read(alloc, cursor)?;
+        let in_sync = Items::read(alloc, cursor)?;
+        Ok(MetadataResponseRow2Row {
+            code,
+            partition,
+            leader,
+            replica,
+            in_sync,
+        })
+    }
+
+    ghost laid = { metadata_response_row2_row_laid };
+}

@@ -1,0 +1,202 @@
+//! Metadata, version 1, the response.
+ghost use Rattle.std.specs.Prelude.{◌≡◌, ◌++◌, map, IfOk, OnOk};
+ghost use Rattle.wire_prim.specs.Reading.{Takes};
+ghost use Rattle.wire_prim.specs.Behind.{AnswersOrWants, behind_many};
+ghost use Rattle.wire_layout.specs.Layout.{array, each, spelled};
+ghost use Rattle.wire_layout.specs.Whole.{IsWritten};
+ghost use Rattle.wire_data.specs.declared.metadata_response.MetadataResponse.{MetadataResponse};
+ghost use Rattle.wire_data.specs.MetadataResponse.{AreTold, IsResponseRead, IsTold, as_stored, flag_of, is_set, metadata_response, response_of, stored_of, stored_response, stored_topic, topic_of};
+
+use crate::metadata::{MetadataResponseRow, MetadataResponseRow2Row};
+use gate_io::{Items, Text, Want};
+use std::alloc::Global;
+use wire_layout::{Laid, WireNo, refusal_of};
+use wire_prim::{Cursor, PrimNo, put_count};
+
+/// Brokers and topics.
+#[derive(Drop)]
+pub struct MetadataResponse {
+    pub rows: Items<MetadataResponseRow>,
+    pub controller: i32,
+    pub rows2: Items<MetadataResponseRow2>,
+}
+
+/// A topic.
+#[derive(Drop)]
+pub struct MetadataResponseRow2 {
+    pub code: i16,
+    pub name: Text,
+    pub internal: bool,
+    pub rows: Items<MetadataResponseRow2Row>,
+}
+
+// Any byte but 0 is true.
+fn is_set(flag: i8) -> bool
+    ensures { result ≡ is_set flag }
+{
+    flag != 0
+}
+
+fn flag_of(internal: bool) -> i8
+    ensures { result ≡ flag_of internal }
+{
+    if internal { 1 } else { 0 }
+}
+
+fn read_topic(alloc: Global, cursor: &mut Cursor) -> Result<MetadataResponseRow2, PrimNo>
+    ensures value { IfOk result (λ m. IsTold topic_of stored_topic m cursor.old cursor.new) }
+    ensures answer { AnswersOrWants result (stored_topic.behind cursor.old.left) cursor.new.left }
+{
+    let code = i16::read(alloc, cursor)?;
+    let name = Text::read(alloc, cursor)?;
+    let flag = i8::read(alloc, cursor)?;
+    let rows = Items::read(alloc, cursor)?;
+    let internal = is_set(flag);
+    Ok(MetadataResponseRow2 {
+        code,
+        name,
+        internal,
+        rows,
+    })
+}
+
+fn read_topics(
+    alloc: Global,
+    cursor: &mut Cursor,
+    count: u32,
+) -> Result<Items<MetadataResponseRow2>, PrimNo>
+    ensures value { IfOk result (λ rows. AreTold count rows cursor.old cursor.new) }
+    ensures answer { AnswersOrWants result (behind_many count stored_topic.behind cursor.old.left) cursor.new.left }
+{
+    let mut topics = Items::new(alloc);
+    for _ in 0..count {
+        let topic = match read_topic(alloc, cursor) {
+            Ok(topic) => topic,
+            Err(cause) => return Err(cause),
+        };
+        topics.push(topic)?;
+    }
+    Ok(topics)
+}
+
+// The topics behind their count.
+#[tactic(auto, unfolding(wire_layout::specs::Layout::array))]
+fn topics(alloc: Global, cursor: &mut Cursor) -> Result<Items<MetadataResponseRow2>, PrimNo>
+    ensures value { IfOk result (λ m. IsTold (map topic_of) (array stored_topic) m cursor.old cursor.new) }
+    ensures answer { AnswersOrWants result ((array stored_topic).behind cursor.old.left) cursor.new.left }
+{
+    let size = cursor.int32()?;
+    if size < 0 {
+        return Err(PrimNo::Negative);
+    }
+    read_topics(alloc, cursor, size as u32)
+}
+
+fn response(alloc: Global, cursor: &mut Cursor) -> Result<MetadataResponse, PrimNo>
+    ensures value { IfOk result (λ m. IsTold response_of stored_response m cursor.old cursor.new) }
+    ensures answer { AnswersOrWants result (stored_response.behind cursor.old.left) cursor.new.left }
+{
+    let rows = Items::read(alloc, cursor)?;
+    let controller = i32::read(alloc, cursor)?;
+    let rows2 = topics(alloc, cursor)?;
+    Ok(MetadataResponse {
+        rows,
+        controller,
+        rows2,
+    })
+}
+
+fn size_of_topics(topics: &[MetadataResponseRow2]) -> usize {
+    let mut size = 4usize;
+    for topic in topics {
+        size = size
+            .saturating_add(topic.name.size())
+            .saturating_add(topic.rows.size())
+            .saturating_add(3);
+    }
+    size
+}
+
+fn put_topic(out: &mut Vec<u8>, topic: &MetadataResponseRow2) -> Result<(), Want>
+    ensures ok { OnOk result (out.new.items ≡ out.old.items ++ stored_topic.spelling (as_stored topic.now)) }
+    ensures fits { OnOk result (stored_topic.fits (as_stored topic.now)) }
+{
+    topic.code.put(out)?;
+    topic.name.put(out)?;
+    flag_of(topic.internal).put(out)?;
+    topic.rows.put(out)?;
+    Ok(())
+}
+
+fn put_topics(out: &mut Vec<u8>, topics: &[MetadataResponseRow2]) -> Result<(), Want>
+    ensures ok { OnOk result (out.new.items ≡ out.old.items ++ spelled (λ t. stored_topic.spelling (as_stored t)) topics.now) }
+    ensures fits { OnOk result (each (λ t. stored_topic.fits (as_stored t)) topics.now) }
+{
+    for topic in topics {
+        put_topic(out, topic)?;
+    }
+    Ok(())
+}
+
+// The topics behind their count.
+fn put_array(out: &mut Vec<u8>, topics: &[MetadataResponseRow2]) -> Result<(), Want>
+    ensures ok { OnOk result (out.new.items ≡ out.old.items ++ (array stored_topic).spelling (map as_stored topics.now)) }
+    ensures fits { OnOk result ((array stored_topic).fits (map as_stored topics.now)) }
+{
+    if topics.len() > 0x7fff_ffff {
+        return Err(Want);
+    }
+    put_count(out, topics.len() as u32)?;
+    put_topics(out, topics)?;
+    Ok(())
+}
+
+/// A response is what its spelling tells, so one that is written reads back as itself.
+pub fn responses_tell_themselves()
+    ensures { (m : MetadataResponse) → response_of (stored_of m) ≡ m }
+{}
+
+impl MetadataResponse {
+    /// Reads a body.
+    pub fn read(alloc: Global, bytes: &[u8]) -> Result<MetadataResponse, WireNo>
+        ensures { IsResponseRead bytes.now result }
+    {
+        let mut cursor = Cursor::new(bytes);
+        let message = match response(alloc, &mut cursor) {
+            Ok(message) => message,
+            Err(cause) => return Err(refusal_of(cause)),
+        };
+        let left = cursor.left();
+        if left == 0 {
+            Ok(message)
+        } else {
+            Err(WireNo::Rest(left))
+        }
+    }
+
+    fn put(&self, out: &mut Vec<u8>) -> Result<(), Want>
+        ensures ok { OnOk result (out.new.items ≡ out.old.items ++ metadata_response.spelling self.now) }
+        ensures fits { OnOk result (metadata_response.fits self.now) }
+    {
+        self.rows.put(out)?;
+        self.controller.put(out)?;
+        put_array(out, self.rows2.as_slice())?;
+        Ok(())
+    }
+
+    /// Writes a body.
+    pub fn write(&self, alloc: Global) -> Result<Vec<u8>, Want>
+        ensures { IfOk result (λ out. IsWritten metadata_response 4 self.now out.items) }
+    {
+        let size = self.rows.size().saturating_add(4);
+        let size = size.saturating_add(size_of_topics(self.rows2.as_slice()));
+        let Ok(mut out) = Vec::with_capacity(alloc, size) else {
+            return Err(Want);
+        };
+        self.put(&mut out)?;
+        if out.len() > 0x7fff_fffb {
+            return Err(Want);
+        }
+        Ok(out)
+    }
+}

@@ -1,0 +1,250 @@
+//! Produce, version 3.
+ghost use Rattle.std.specs.Prelude.{IfOk};
+ghost use Rattle.wire_layout.specs.Whole.{IsRead, IsWritten};
+ghost use Rattle.wire_data.specs.Produce.{produce_request, produce_request_laid, produce_request_row, produce_request_row_laid, produce_request_row_row, produce_request_row_row_laid, produce_response, produce_response_laid, produce_response_row, produce_response_row_laid, produce_response_row_row, produce_response_row_row_laid};
+
+use gate_io::{Items, Text, Want};
+use std::alloc::Global;
+use wire_layout::{
+    Laid, WireNo, put_nullable_piece, read_nullable_piece, read_whole, size_of_nullable_piece,
+    write_whole,
+};
+use wire_prim::{Cursor, PrimNo};
+
+/// Appends batches to partitions. The timeout is in milliseconds.
+#[derive(Drop)]
+pub struct ProduceRequest {
+    pub transactional_id: Option<Text>,
+    pub acks: i16,
+    pub timeout_ms: i32,
+    pub rows: Items<ProduceRequestRow>,
+}
+
+impl ProduceRequest {
+    /// Reads a body.
+    pub fn read(alloc: Global, bytes: &[u8]) -> Result<ProduceRequest, WireNo>
+        ensures { IsRead produce_request bytes.now result }
+    {
+        read_whole(alloc, bytes)
+    }
+
+    /// Writes a body.
+    pub fn write(&self, alloc: Global) -> Result<Vec<u8>, Want>
+        ensures { IfOk result (λ out. IsWritten produce_request 10 self.now out.items) }
+    {
+        write_whole(alloc, 10, self)
+    }
+}
+
+impl Laid for ProduceRequest {
+    ghost layout = { produce_request };
+
+    fn size(&self) -> usize {
+        self.transactional_id
+            .size()
+            .saturating_add(self.acks.size())
+            .saturating_add(self.timeout_ms.size())
+            .saturating_add(self.rows.size())
+    }
+
+    fn put(&self, out: &mut Vec<u8>) -> Result<(), Want> {
+        self.transactional_id.put(out)?;
+        self.acks.put(out)?;
+        self.timeout_ms.put(out)?;
+        self.rows.put(out)?;
+        Ok(())
+    }
+
+    fn read(alloc: Global, cursor: &mut Cursor) -> Result<ProduceRequest, PrimNo> {
+        let transactional_id = Option::read(alloc, cursor)?;
+        let acks = i16::read(alloc, cursor)?;
+        let timeout_ms = i32::read(alloc, cursor)?;
+        let rows = Items::read(alloc, cursor)?;
+        Ok(ProduceRequest {
+            transactional_id,
+            acks,
+            timeout_ms,
+            rows,
+        })
+    }
+
+    ghost laid = { produce_request_laid };
+}
+
+/// A topic.
+#[derive(Drop)]
+pub struct ProduceRequestRow {
+    pub name: Text,
+    pub rows: Items<ProduceRequestRowRow>,
+}
+
+impl Laid for ProduceRequestRow {
+    ghost layout = { produce_request_row };
+
+    fn size(&self) -> usize {
+        self.name.size().saturating_add(self.rows.size())
+    }
+
+    fn put(&self, out: &mut Vec<u8>) -> Result<(), Want> {
+        self.name.put(out)?;
+        self.rows.put(out)?;
+        Ok(())
+    }
+
+    fn read(alloc: Global, cursor: &mut Cursor) -> Result<ProduceRequestRow, PrimNo> {
+        let name = Text::read(alloc, cursor)?;
+        let rows = Items::read(alloc, cursor)?;
+        Ok(ProduceRequestRow { name, rows })
+    }
+
+    ghost laid = { produce_request_row_laid };
+}
+
+/// A partition and its batches.
+#[derive(Drop)]
+pub struct ProduceRequestRowRow {
+    pub partition: i32,
+    pub batch: Option<Items<u8>>,
+}
+
+impl Laid for ProduceRequestRowRow {
+    ghost layout = { produce_request_row_row };
+
+    fn size(&self) -> usize {
+        self.partition
+            .size()
+            .saturating_add(size_of_nullable_piece(&self.batch))
+    }
+
+    fn put(&self, out: &mut Vec<u8>) -> Result<(), Want> {
+        self.partition.put(out)?;
+        put_nullable_piece(out, &self.batch)?;
+        Ok(())
+    }
+
+    fn read(alloc: Global, cursor: &mut Cursor) -> Result<ProduceRequestRowRow, PrimNo> {
+        let partition = i32::read(alloc, cursor)?;
+        let batch = read_nullable_piece(alloc, cursor)?;
+        Ok(ProduceRequestRowRow { partition, batch })
+    }
+
+    ghost laid = { produce_request_row_row_laid };
+}
+
+/// Where the batches stand.
+#[derive(Drop)]
+pub struct ProduceResponse {
+    pub rows: Items<ProduceResponseRow>,
+    pub throttle_ms: i32,
+}
+
+impl ProduceResponse {
+    /// Reads a body.
+    pub fn read(alloc: Global, bytes: &[u8]) -> Result<ProduceResponse, WireNo>
+        ensures { IsRead produce_response bytes.now result }
+    {
+        read_whole(alloc, bytes)
+    }
+
+    /// Writes a body.
+    pub fn write(&self, alloc: Global) -> Result<Vec<u8>, Want>
+        ensures { IfOk result (λ out. IsWritten produce_response 4 self.now out.items) }
+    {
+        write_whole(alloc, 4, self)
+    }
+}
+
+impl Laid for ProduceResponse {
+    ghost layout = { produce_response };
+
+    fn size(&self) -> usize {
+        self.rows.size().saturating_add(self.throttle_ms.size())
+    }
+
+    fn put(&self, out: &mut Vec<u8>) -> Result<(), Want> {
+        self.rows.put(out)?;
+        self.throttle_ms.put(out)?;
+        Ok(())
+    }
+
+    fn read(alloc: Global, cursor: &mut Cursor) -> Result<ProduceResponse, PrimNo> {
+        let rows = Items::read(alloc, cursor)?;
+        let throttle_ms = i32::read(alloc, cursor)?;
+        Ok(ProduceResponse { rows, throttle_ms })
+    }
+
+    ghost laid = { produce_response_laid };
+}
+
+/// A topic.
+#[derive(Drop)]
+pub struct ProduceResponseRow {
+    pub name: Text,
+    pub rows: Items<ProduceResponseRowRow>,
+}
+
+impl Laid for ProduceResponseRow {
+    ghost layout = { produce_response_row };
+
+    fn size(&self) -> usize {
+        self.name.size().saturating_add(self.rows.size())
+    }
+
+    fn put(&self, out: &mut Vec<u8>) -> Result<(), Want> {
+        self.name.put(out)?;
+        self.rows.put(out)?;
+        Ok(())
+    }
+
+    fn read(alloc: Global, cursor: &mut Cursor) -> Result<ProduceResponseRow, PrimNo> {
+        let name = Text::read(alloc, cursor)?;
+        let rows = Items::read(alloc, cursor)?;
+        Ok(ProduceResponseRow { name, rows })
+    }
+
+    ghost laid = { produce_response_row_laid };
+}
+
+/// A partition, its code, and the offset of the first record.
+#[derive(Drop)]
+pub struct ProduceResponseRowRow {
+    pub partition: i32,
+    pub code: i16,
+    pub base_offset: i64,
+    pub append_time: i64,
+}
+
+impl Laid for ProduceResponseRowRow {
+    ghost layout = { produce_response_row_row };
+
+    fn size(&self) -> usize {
+        self.partition
+            .size()
+            .saturating_add(self.code.size())
+            .saturating_add(self.base_offset.size())
+            .saturating_add(self.append_time.size())
+    }
+
+    fn put(&self, out: &mut Vec<u8>) -> Result<(), Want> {
+        self.partition.put(out)?;
+        self.code.put(out)?;
+        self.base_offset.put(out)?;
+        self.append_time.put(out)?;
+        Ok(())
+    }
+
+    fn read(alloc: Global, cursor: &mut Cursor) -> Result<ProduceResponseRowRow, PrimNo> {
+        let partition = i32::read(alloc, cursor)?;
+        let code = i16::read(alloc, cursor)?;
+        let base_offset = i64::read(alloc, cursor)?;
+        let append_time = i64::read(alloc, cursor)?;
+        Ok(ProduceResponseRowRow {
+            partition,
+            code,
+            base_offset,
+            append_time,
+        })
+    }
+
+    ghost laid = { produce_response_row_row_laid };
+}

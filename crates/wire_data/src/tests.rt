@@ -1,0 +1,314 @@
+//! Vectors made by hand from the Kafka protocol guide's tables, one field a line.
+use crate::{
+    ApiVersionsRequest, ApiVersionsResponse, FetchRequest, FetchResponse, ListOffsetsRequest,
+    ListOffsetsResponse, MetadataRequest, MetadataResponse, ProduceRequest, ProduceResponse,
+    RequestHeader, ResponseHeader, WireNo, responses_tell_themselves,
+};
+use std::alloc::Global;
+use std::process::Abort;
+use std::test::Fail;
+use wire_layout::write_frame;
+use wire_prim::PrimNo;
+
+const PRODUCE_REQUEST: &[u8] = &[
+    0xff, 0xff, // transactional_id null
+    0xff, 0xff, // acks -1
+    0, 0, 0x75, 0x30, // timeout_ms
+    0, 0, 0, 1, // one row
+    0, 1, b't', // name
+    0, 0, 0, 2, // two rows
+    0, 0, 0, 0, // partition
+    0, 0, 0, 3, 1, 2, 3, // batch
+    0, 0, 0, 1, // partition
+    0xff, 0xff, 0xff, 0xff, // batch null
+];
+
+const PRODUCE_RESPONSE: &[u8] = &[
+    0, 0, 0, 1, // one row
+    0, 1, b't', // name
+    0, 0, 0, 1, // one row
+    0, 0, 0, 1, // partition
+    0, 3, // code
+    0xff, 0xff, 0xff, 0xff, 0xff, 0xff, 0xff, 0xff, // base_offset -1
+    0, 0, 0, 0, 0, 0, 0, 9, // append_time
+    0, 0, 0, 5, // throttle_ms
+];
+
+const FETCH_REQUEST: &[u8] = &[
+    0xff, 0xff, 0xff, 0xff, // replica -1
+    0, 0, 0, 0, // max_wait_ms
+    0, 0, 0, 1, // min_bytes
+    0, 1, 0, 0, // max_bytes
+    0, // isolation
+    0, 0, 0, 1, // one row
+    0, 1, b't', // name
+    0, 0, 0, 1, // one row
+    0, 0, 0, 2, // partition
+    0, 0, 0, 0, 0, 0, 0, 7, // offset
+    0, 1, 0, 0, // max_bytes
+];
+
+const FETCH_RESPONSE: &[u8] = &[
+    0, 0, 0, 0, // throttle_ms
+    0, 0, 0, 1, // one row
+    0, 1, b't', // name
+    0, 0, 0, 2, // two rows
+    0, 0, 0, 0, // partition
+    0, 0, // code
+    0, 0, 0, 0, 0, 0, 0, 8, // high_watermark
+    0, 0, 0, 0, 0, 0, 0, 8, // stable_offset
+    0xff, 0xff, 0xff, 0xff, // rows null
+    0, 0, 0, 2, 4, 5, // batches
+    0, 0, 0, 1, // partition
+    0, 1, // code
+    0xff, 0xff, 0xff, 0xff, 0xff, 0xff, 0xff, 0xff, // high_watermark -1
+    0xff, 0xff, 0xff, 0xff, 0xff, 0xff, 0xff, 0xff, // stable_offset -1
+    0, 0, 0, 1, // one row
+    0, 0, 0, 0, 0, 0, 0, 3, // producer
+    0, 0, 0, 0, 0, 0, 0, 4, // first
+    0xff, 0xff, 0xff, 0xff, // batches null
+];
+
+const LIST_OFFSETS_REQUEST: &[u8] = &[
+    0xff, 0xff, 0xff, 0xff, // replica -1
+    0, 0, 0, 1, // one row
+    0, 1, b't', // name
+    0, 0, 0, 1, // one row
+    0, 0, 0, 2, // partition
+    0xff, 0xff, 0xff, 0xff, 0xff, 0xff, 0xff, 0xfe, // timestamp -2
+];
+
+const LIST_OFFSETS_RESPONSE: &[u8] = &[
+    0, 0, 0, 1, // one row
+    0, 1, b't', // name
+    0, 0, 0, 1, // one row
+    0, 0, 0, 2, // partition
+    0, 0, // code
+    0xff, 0xff, 0xff, 0xff, 0xff, 0xff, 0xff, 0xff, // timestamp -1
+    0, 0, 0, 0, 0, 0, 0, 6, // offset
+];
+
+const METADATA_REQUEST: &[u8] = &[
+    0, 0, 0, 1, // one topic
+    0, 6, 0x6f, 0x72, 0x64, 0x65, 0x72, 0x73, // name
+];
+
+const ALL_TOPICS: &[u8] = &[
+    0xff, 0xff, 0xff, 0xff, // name null
+];
+
+const METADATA_RESPONSE: &[u8] = &[
+    0, 0, 0, 1, // one row
+    0, 0, 0, 1, // node
+    0, 4, b'h', b'o', b's', b't', // host
+    0, 0, 0x23, 0x84, // port
+    0xff, 0xff, // rack null
+    0, 0, 0, 1, // controller
+    0, 0, 0, 2, // two rows
+    0, 0, // code
+    0, 1, b't', // name
+    1, // internal
+    0, 0, 0, 1, // one row
+    0, 9, // code
+    0, 0, 0, 0, // partition
+    0, 0, 0, 1, // leader
+    0, 0, 0, 2, // two replicas
+    0, 0, 0, 1, // replica
+    0, 0, 0, 2, // replica
+    0, 0, 0, 1, // one in sync
+    0, 0, 0, 1, // in_sync
+    0, 3, // code
+    0, 1, b'u', // name
+    0, // internal
+    0, 0, 0, 0, // no row
+];
+
+const NO_BROKER: &[u8] = &[
+    0, 0, 0, 0, // no row
+    0, 0, 0, 1, // controller
+    0, 0, 0, 1, // one row
+    0, 0, // code
+    0, 0, // name
+    0x80, // internal
+    0, 0, 0, 0, // no row
+];
+
+const API_VERSIONS_RESPONSE: &[u8] = &[
+    0, 35, // code
+    0, 0, 0, 2, // two rows
+    0, 3, // key
+    0, 0, // min
+    0, 1, // max
+    0, 18, // key
+    0, 0, // min
+    0, 0, // max
+];
+
+// The header of a metadata request, and one byte of its body.
+const REQUEST_HEADER: &[u8] = &[
+    0, 3, // key
+    0, 1, // version
+    0, 0, 0, 7, // correlation
+    0, 8, 0x72, 0x65, 0x73, 0x74, 0x67, 0x61, 0x74, 0x65, // client
+    0, // of the body
+];
+
+// A metadata request for the topic `orders`.
+const FRAME: &[u8] = &[
+    0, 0, 0, 0x1e, // size
+    0, 3, // key
+    0, 1, // version
+    0, 0, 0, 7, // correlation
+    0, 8, 0x72, 0x65, 0x73, 0x74, 0x67, 0x61, 0x74, 0x65, // client
+    0, 0, 0, 1, // one topic
+    0, 6, 0x6f, 0x72, 0x64, 0x65, 0x72, 0x73, // name
+];
+
+// What was written is these bytes, in exactly the room that was made for them.
+fn same<R: Abort>(rt: &R, written: &[u8], capacity: usize, bytes: &[u8]) {
+    assert_eq!(rt; written, bytes);
+    assert_eq!(rt; capacity, bytes.len());
+}
+
+fn cut(bytes: &[u8]) -> &[u8] {
+    match bytes {
+        [front @ .., _] => front,
+        [] => bytes,
+    }
+}
+
+// The bytes with one more.
+fn longer(alloc: Global, bytes: &[u8]) -> Result<Vec<u8>, Fail> {
+    let mut longer = bytes.to_vec(alloc)?;
+    longer.push(0)?;
+    Ok(longer)
+}
+
+macro_rules! both_ways {
+    ($rt:expr, $message:ident, $bytes:expr) => {
+        let message = $message::read($rt.alloc(), $bytes)?;
+        let written = message.write($rt.alloc())?;
+        same(&$rt, written.as_slice(), written.capacity(), $bytes);
+        let short = $message::read($rt.alloc(), cut($bytes)).err();
+        assert!($rt; short == Some(WireNo::Prim(PrimNo::Short)));
+        let longer = longer($rt.alloc(), $bytes)?;
+        let long = $message::read($rt.alloc(), longer.as_slice()).err();
+        assert!($rt; long == Some(WireNo::Rest(1)));
+    };
+}
+
+#[test]
+fn producing_goes_both_ways(rt: HostRuntime) -> Result<(), Fail> {
+    both_ways!(rt, ProduceRequest, PRODUCE_REQUEST);
+    Ok(())
+}
+
+#[test]
+fn where_batches_stand_goes_both_ways(rt: HostRuntime) -> Result<(), Fail> {
+    both_ways!(rt, ProduceResponse, PRODUCE_RESPONSE);
+    Ok(())
+}
+
+#[test]
+fn fetching_goes_both_ways(rt: HostRuntime) -> Result<(), Fail> {
+    both_ways!(rt, FetchRequest, FETCH_REQUEST);
+    Ok(())
+}
+
+#[test]
+fn batches_go_both_ways(rt: HostRuntime) -> Result<(), Fail> {
+    both_ways!(rt, FetchResponse, FETCH_RESPONSE);
+    Ok(())
+}
+
+#[test]
+fn asking_for_offsets_goes_both_ways(rt: HostRuntime) -> Result<(), Fail> {
+    both_ways!(rt, ListOffsetsRequest, LIST_OFFSETS_REQUEST);
+    Ok(())
+}
+
+#[test]
+fn offsets_go_both_ways(rt: HostRuntime) -> Result<(), Fail> {
+    both_ways!(rt, ListOffsetsResponse, LIST_OFFSETS_RESPONSE);
+    Ok(())
+}
+
+#[test]
+fn asking_for_topics_goes_both_ways(rt: HostRuntime) -> Result<(), Fail> {
+    both_ways!(rt, MetadataRequest, METADATA_REQUEST);
+    Ok(())
+}
+
+#[test]
+fn topics_go_both_ways(rt: HostRuntime) -> Result<(), Fail> {
+    both_ways!(rt, MetadataResponse, METADATA_RESPONSE);
+    Ok(())
+}
+
+#[test]
+fn any_byte_but_0_is_true(rt: HostRuntime) -> Result<(), Fail> {
+    responses_tell_themselves();
+    let message = MetadataResponse::read(rt.alloc(), NO_BROKER)?;
+    let topic = message.rows2.get(0).ok_or("a topic")?;
+    assert!(rt; topic.internal);
+    Ok(())
+}
+
+#[test]
+fn versions_go_both_ways(rt: HostRuntime) -> Result<(), Fail> {
+    both_ways!(rt, ApiVersionsResponse, API_VERSIONS_RESPONSE);
+    Ok(())
+}
+
+#[test]
+fn an_empty_body_goes_both_ways(rt: HostRuntime) -> Result<(), Fail> {
+    let message = ApiVersionsRequest::read(rt.alloc(), &[])?;
+    assert_eq!(rt; message.write(rt.alloc())?.len(), 0);
+    let long = ApiVersionsRequest::read(rt.alloc(), &[0]).err();
+    assert!(rt; long == Some(WireNo::Rest(1)));
+    Ok(())
+}
+
+#[test]
+fn no_list_of_topics_is_no_empty_list(rt: HostRuntime) -> Result<(), Fail> {
+    let all = MetadataRequest::read(rt.alloc(), ALL_TOPICS)?;
+    assert!(rt; all.name.is_none());
+    same(&rt, all.write(rt.alloc())?.as_slice(), 4, ALL_TOPICS);
+    Ok(())
+}
+
+#[test]
+fn a_request_header_is_read_from_the_front(rt: HostRuntime) -> Result<(), Fail> {
+    let (header, size) = RequestHeader::read(rt.alloc(), REQUEST_HEADER)?;
+    assert_eq!(rt; size, 18);
+    assert_eq!(rt; header.key, 3);
+    assert_eq!(rt; header.version, 1);
+    assert_eq!(rt; header.correlation, 7);
+    same(
+        &rt,
+        header.write(rt.alloc())?.as_slice(),
+        18,
+        cut(REQUEST_HEADER),
+    );
+    let short = RequestHeader::read(rt.alloc(), cut(cut(REQUEST_HEADER))).err();
+    assert!(rt; short == Some(WireNo::Prim(PrimNo::Short)));
+    Ok(())
+}
+
+#[test]
+fn a_response_header_is_read_from_the_front(rt: HostRuntime) -> Result<(), Fail> {
+    let (header, size) = ResponseHeader::read(rt.alloc(), &[0, 0, 0, 1, 0, 0x1b])?;
+    assert_eq!(rt; size, 4);
+    assert_eq!(rt; header.correlation, 1);
+    same(&rt, header.write(rt.alloc())?.as_slice(), 4, &[0, 0, 0, 1]);
+    Ok(())
+}
+
+#[test]
+fn a_frame_is_written_in_one_piece(rt: HostRuntime) -> Result<(), Fail> {
+    let (header, _) = RequestHeader::read(rt.alloc(), REQUEST_HEADER)?;
+    let body = MetadataRequest::read(rt.alloc(), METADATA_REQUEST)?;
+    let frame = write_frame(rt.alloc(), &header, &body)?;
+    same(&rt, frame.as_slice(), frame.capacity(), FRAME);
+    Ok(())
+}

@@ -1,0 +1,10 @@
+pub mod Assignment
+pub mod FindCoordinator
+pub mod Heartbeat
+pub mod JoinGroup
+pub mod LeaveGroup
+pub mod OffsetCommit
+pub mod OffsetFetch
+pub mod Subscription
+pub mod SyncGroup
+pub mod Versioned

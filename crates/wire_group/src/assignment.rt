@@ -1,0 +1,95 @@
+//! What a member is given.
+ghost use Rattle.std.specs.Prelude.{IfOk};
+ghost use Rattle.wire_group.specs.Versioned.{IsVersionedRead, IsVersionedWritten};
+ghost use Rattle.wire_group.specs.Assignment.{assignment, assignment_laid, assignment_row, assignment_row_laid};
+
+use crate::versioned::{read_versioned, write_versioned};
+use gate_io::{Items, Text, Want};
+use std::alloc::Global;
+use wire_layout::{Laid, WireNo, put_nullable_piece, read_nullable_piece, size_of_nullable_piece};
+use wire_prim::{Cursor, PrimNo};
+
+/// The partitions that a member is given. Its version is 0.
+#[derive(Drop)]
+pub struct Assignment {
+    pub version: i16,
+    pub rows: Items<AssignmentRow>,
+    pub user: Option<Items<u8>>,
+}
+
+impl Assignment {
+    /// Reads it in any version from 0 on. The further bytes of a higher one are left aside, and the version given is 0.
+    pub fn read(alloc: Global, bytes: &[u8]) -> Result<Assignment, WireNo>
+        ensures { IsVersionedRead assignment bytes.now result }
+    {
+        read_versioned(alloc, bytes)
+    }
+
+    /// Another version than 0 is answered by want.
+    pub fn write(&self, alloc: Global) -> Result<Vec<u8>, Want>
+        ensures { IfOk result (λ out. IsVersionedWritten assignment self.now out.items) }
+    {
+        write_versioned(alloc, self)
+    }
+}
+
+/// Of what stands behind the version.
+impl Laid for Assignment {
+    ghost layout = { assignment };
+
+    fn size(&self) -> usize {
+        self.rows
+            .size()
+            .saturating_add(size_of_nullable_piece(&self.user))
+    }
+
+    fn put(&self, out: &mut Vec<u8>) -> Result<(), Want> {
+        if self.version != 0 {
+            return Err(Want);
+        }
+        self.rows.put(out)?;
+        put_nullable_piece(out, &self.user)?;
+        Ok(())
+    }
+
+    fn read(alloc: Global, cursor: &mut Cursor) -> Result<Assignment, PrimNo> {
+        let rows = Items::read(alloc, cursor)?;
+        let user = read_nullable_piece(alloc, cursor)?;
+        Ok(Assignment {
+            version: 0,
+            rows,
+            user,
+        })
+    }
+
+    ghost laid = { assignment_laid };
+}
+
+/// A topic and its partitions.
+#[derive(Drop)]
+pub struct AssignmentRow {
+    pub topic: Text,
+    pub partition: Items<i32>,
+}
+
+impl Laid for AssignmentRow {
+    ghost layout = { assignment_row };
+
+    fn size(&self) -> usize {
+        self.topic.size().saturating_add(self.partition.size())
+    }
+
+    fn put(&self, out: &mut Vec<u8>) -> Result<(), Want> {
+        self.topic.put(out)?;
+        self.partition.put(out)?;
+        Ok(())
+    }
+
+    fn read(alloc: Global, cursor: &mut Cursor) -> Result<AssignmentRow, PrimNo> {
+        let topic = Text::read(alloc, cursor)?;
+        let partition = Items::read(alloc, cursor)?;
+        Ok(AssignmentRow { topic, partition })
+    }
+
+    ghost laid = { assignment_row_laid };
+}

@@ -1,0 +1,106 @@
+//! Heartbeat, version 0.
+ghost use Rattle.std.specs.Prelude.{IfOk};
+ghost use Rattle.wire_layout.specs.Whole.{IsRead, IsWritten};
+ghost use Rattle.wire_group.specs.Heartbeat.{heartbeat_request, heartbeat_request_laid, heartbeat_response, heartbeat_response_laid};
+
+use gate_io::{Text, Want};
+use std::alloc::Global;
+use wire_layout::{Laid, WireNo, read_whole, write_whole};
+use wire_prim::{Cursor, PrimNo};
+
+/// A member's sign of life.
+#[derive(Drop)]
+pub struct HeartbeatRequest {
+    pub group: Text,
+    pub generation: i32,
+    pub member: Text,
+}
+
+impl HeartbeatRequest {
+    /// Reads a body.
+    pub fn read(alloc: Global, bytes: &[u8]) -> Result<HeartbeatRequest, WireNo>
+        ensures { IsRead heartbeat_request bytes.now result }
+    {
+        read_whole(alloc, bytes)
+    }
+
+    /// Writes a body.
+    pub fn write(&self, alloc: Global) -> Result<Vec<u8>, Want>
+        ensures { IfOk result (λ out. IsWritten heartbeat_request 10 self.now out.items) }
+    {
+        write_whole(alloc, 10, self)
+    }
+}
+
+impl Laid for HeartbeatRequest {
+    ghost layout = { heartbeat_request };
+
+    fn size(&self) -> usize {
+        self.group
+            .size()
+            .saturating_add(self.generation.size())
+            .saturating_add(self.member.size())
+    }
+
+    fn put(&self, out: &mut Vec<u8>) -> Result<(), Want> {
+        self.group.put(out)?;
+        self.generation.put(out)?;
+        self.member.put(out)?;
+        Ok(())
+    }
+
+    fn read(alloc: Global, cursor: &mut Cursor) -> Result<HeartbeatRequest, PrimNo> {
+        let group = Text::read(alloc, cursor)?;
+        let generation = i32::read(alloc, cursor)?;
+        let member = Text::read(alloc, cursor)?;
+        Ok(HeartbeatRequest {
+            group,
+            generation,
+            member,
+        })
+    }
+
+    ghost laid = { heartbeat_request_laid };
+}
+
+/// Whether the member still belongs to its group.
+#[derive(Drop)]
+pub struct HeartbeatResponse {
+    pub code: i16,
+}
+
+impl HeartbeatResponse {
+    /// Reads a body.
+    pub fn read(alloc: Global, bytes: &[u8]) -> Result<HeartbeatResponse, WireNo>
+        ensures { IsRead heartbeat_response bytes.now result }
+    {
+        read_whole(alloc, bytes)
+    }
+
+    /// Writes a body.
+    pub fn write(&self, alloc: Global) -> Result<Vec<u8>, Want>
+        ensures { IfOk result (λ out. IsWritten heartbeat_response 4 self.now out.items) }
+    {
+        write_whole(alloc, 4, self)
+    }
+}
+
+impl Laid for HeartbeatResponse {
+    ghost layout = { heartbeat_response };
+
+    fn size(&self) -> usize {
+        self.code.size()
+    }
+
+    fn put(&self, out: &mut Vec<u8>) -> Result<(), Want> {
+        self.code.put(out)?;
+        Ok(())
+    }
+
+    fn read(alloc: Global, cursor: &mut Cursor) -> Result<HeartbeatResponse, PrimNo> {
+        let code = i16::read(alloc, cursor)?;
+        Ok(HeartbeatResponse { code })
+    }
+
+    ghost laid = { heartbeat_response_laid };
+}

@@ -1,0 +1,216 @@
+//! JoinGroup, version 2.
+ghost use Rattle.std.specs.Prelude.{IfOk};
+ghost use Rattle.wire_layout.specs.Whole.{IsRead, IsWritten};
+ghost use Rattle.wire_group.specs.JoinGroup.{join_group_request, join_group_request_laid, join_group_request_row, join_group_request_row_laid, join_group_response, join_group_response_laid, join_group_response_row, join_group_response_row_laid};
+
+use gate_io::{Items, Text, Want};
+use std::alloc::Global;
+use wire_layout::{Laid, WireNo, put_piece, read_piece, read_whole, size_of_piece, write_whole};
+use wire_prim::{Cursor, PrimNo};
+
+/// A member joins a group. Times are in milliseconds.
+#[derive(Drop)]
+pub struct JoinGroupRequest {
+    pub group: Text,
+    pub session_ms: i32,
+    pub rebalance_ms: i32,
+    pub member: Text,
+    pub protocol_type: Text,
+    pub rows: Items<JoinGroupRequestRow>,
+}
+
+impl JoinGroupRequest {
+    /// Reads a body.
+    pub fn read(alloc: Global, bytes: &[u8]) -> Result<JoinGroupRequest, WireNo>
+        ensures { IsRead join_group_request bytes.now result }
+    {
+        read_whole(alloc, bytes)
+    }
+
+    /// Writes a body.
+    pub fn write(&self, alloc: Global) -> Result<Vec<u8>, Want>
+        ensures { IfOk result (λ out. IsWritten join_group_request 10 self.now out.items) }
+    {
+        write_whole(alloc, 10, self)
+    }
+}
+
+impl Laid for JoinGroupRequest {
+    ghost layout = { join_group_request };
+
+    fn size(&self) -> usize {
+        self.group
+            .size()
+            .saturating_add(self.session_ms.size())
+            .saturating_add(self.rebalance_ms.size())
+            .saturating_add(self.member.size())
+            .saturating_add(self.protocol_type.size())
+            .saturating_add(self.rows.size())
+    }
+
+    fn put(&self, out: &mut Vec<u8>) -> Result<(), Want> {
+        self.group.put(out)?;
+        self.session_ms.put(out)?;
+        self.rebalance_ms.put(out)?;
+        self.member.put(out)?;
+        self.protocol_type.put(out)?;
+        self.rows.put(out)?;
+        Ok(())
+    }
+
+    fn read(alloc: Global, cursor: &mut Cursor) -> Result<JoinGroupRequest, PrimNo> {
+        let group = Text::read(alloc, cursor)?;
+        let session_ms = i32::read(alloc, cursor)?;
+        let rebalance_ms = i32::read(alloc, cursor)?;
+        let member = Text::read(alloc, cursor)?;
+        let protocol_type = Text::read(alloc, cursor)?;
+        let rows = Items::read(alloc, cursor)?;
+        Ok(JoinGroupRequest {
+            group,
+            session_ms,
+            rebalance_ms,
+            member,
+            protocol_type,
+            rows,
+        })
+    }
+
+    ghost laid = { join_group_request_laid };
+}
+
+/// A protocol that the member offers, with its `Subscription`.
+#[derive(Drop)]
+pub struct JoinGroupRequestRow {
+    pub name: Text,
+    pub metadata: Items<u8>,
+}
+
+impl Laid for JoinGroupRequestRow {
+    ghost layout = { join_group_request_row };
+
+    fn size(&self) -> usize {
+        self.name
+            .size()
+            .saturating_add(size_of_piece(&self.metadata))
+    }
+
+    fn put(&self, out: &mut Vec<u8>) -> Result<(), Want> {
+        self.name.put(out)?;
+        put_piece(out, &self.metadata)?;
+        Ok(())
+    }
+
+    fn read(alloc: Global, cursor: &mut Cursor) -> Result<JoinGroupRequestRow, PrimNo> {
+        let name = Text::read(alloc, cursor)?;
+        let metadata = read_piece(alloc, cursor)?;
+        Ok(JoinGroupRequestRow { name, metadata })
+    }
+
+    ghost laid = { join_group_request_row_laid };
+}
+
+/// The generation that a member has joined.
+#[derive(Drop)]
+pub struct JoinGroupResponse {
+    pub throttle_ms: i32,
+    pub code: i16,
+    pub generation: i32,
+    pub protocol: Text,
+    pub leader: Text,
+    pub member: Text,
+    pub rows: Items<JoinGroupResponseRow>,
+}
+
+impl JoinGroupResponse {
+    /// Reads a body.
+    pub fn read(alloc: Global, bytes: &[u8]) -> Result<JoinGroupResponse, WireNo>
+        ensures { IsRead join_group_response bytes.now result }
+    {
+        read_whole(alloc, bytes)
+    }
+
+    /// Writes a body.
+    pub fn write(&self, alloc: Global) -> Result<Vec<u8>, Want>
+        ensures { IfOk result (λ out. IsWritten join_group_response 4 self.now out.items) }
+    {
+        write_whole(alloc, 4, self)
+    }
+}
+
+impl Laid for JoinGroupResponse {
+    ghost layout = { join_group_response };
+
+    fn size(&self) -> usize {
+        self.throttle_ms
+            .size()
+            .saturating_add(self.code.size())
+            .saturating_add(self.generation.size())
+            .saturating_add(self.protocol.size())
+            .saturating_add(self.leader.size())
+            .saturating_add(self.member.size())
+            .saturating_add(self.rows.size())
+    }
+
+    fn put(&self, out: &mut Vec<u8>) -> Result<(), Want> {
+        self.throttle_ms.put(out)?;
+        self.code.put(out)?;
+        self.generation.put(out)?;
+        self.protocol.put(out)?;
+        self.leader.put(out)?;
+        self.member.put(out)?;
+        self.rows.put(out)?;
+        Ok(())
+    }
+
+    fn read(alloc: Global, cursor: &mut Cursor) -> Result<JoinGroupResponse, PrimNo> {
+        let throttle_ms = i32::read(alloc, cursor)?;
+        let code = i16::read(alloc, cursor)?;
+        let generation = i32::read(alloc, cursor)?;
+        let protocol = Text::read(alloc, cursor)?;
+        let leader = Text::read(alloc, cursor)?;
+        let member = Text::read(alloc, cursor)?;
+        let rows = Items::read(alloc, cursor)?;
+        Ok(JoinGroupResponse {
+            throttle_ms,
+            code,
+            generation,
+            protocol,
+            leader,
+            member,
+            rows,
+        })
+    }
+
+    ghost laid = { join_group_response_laid };
+}
+
+/// A member, with its `Subscription`, for the leader.
+#[derive(Drop)]
+pub struct JoinGroupResponseRow {
+    pub member: Text,
+    pub metadata: Items<u8>,
+}
+
+impl Laid for JoinGroupResponseRow {
+    ghost layout = { join_group_response_row };
+
+    fn size(&self) -> usize {
+        self.member
+            .size()
+            .saturating_add(size_of_piece(&self.metadata))
+    }
+
+    fn put(&self, out: &mut Vec<u8>) -> Result<(), Want> {
+        self.member.put(out)?;
+        put_piece(out, &self.metadata)?;
+        Ok(())
+    }
+
+    fn read(alloc: Global, cursor: &mut Cursor) -> Result<JoinGroupResponseRow, PrimNo> {
+        let member = Text::read(alloc, cursor)?;
+        let metadata = read_piece(alloc, cursor)?;
+        Ok(JoinGroupResponseRow { member, metadata })
+    }
+
+    ghost laid = { join_group_response_row_laid };
+}

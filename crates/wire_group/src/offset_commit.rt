@@ -1,0 +1,242 @@
+//! OffsetCommit, version 2.
+ghost use Rattle.std.specs.Prelude.{IfOk};
+ghost use Rattle.wire_layout.specs.Whole.{IsRead, IsWritten};
+ghost use Rattle.wire_group.specs.OffsetCommit.{offset_commit_request, offset_commit_request_laid, offset_commit_request_row, offset_commit_request_row_laid, offset_commit_request_row_row, offset_commit_request_row_row_laid, offset_commit_response, offset_commit_response_laid, offset_commit_response_row, offset_commit_response_row_laid, offset_commit_response_row_row, offset_commit_response_row_row_laid};
+
+use gate_io::{Items, Text, Want};
+use std::alloc::Global;
+use wire_layout::{Laid, WireNo, read_whole, write_whole};
+use wire_prim::{Cursor, PrimNo};
+
+/// Keeps offsets for a group.
+#[derive(Drop)]
+pub struct OffsetCommitRequest {
+    pub group: Text,
+    pub generation: i32,
+    pub member: Text,
+    pub retention_ms: i64,
+    pub rows: Items<OffsetCommitRequestRow>,
+}
+
+impl OffsetCommitRequest {
+    /// Reads a body.
+    pub fn read(alloc: Global, bytes: &[u8]) -> Result<OffsetCommitRequest, WireNo>
+        ensures { IsRead offset_commit_request bytes.now result }
+    {
+        read_whole(alloc, bytes)
+    }
+
+    /// Writes a body.
+    pub fn write(&self, alloc: Global) -> Result<Vec<u8>, Want>
+        ensures { IfOk result (λ out. IsWritten offset_commit_request 10 self.now out.items) }
+    {
+        write_whole(alloc, 10, self)
+    }
+}
+
+impl Laid for OffsetCommitRequest {
+    ghost layout = { offset_commit_request };
+
+    fn size(&self) -> usize {
+        self.group
+            .size()
+            .saturating_add(self.generation.size())
+            .saturating_add(self.member.size())
+            .saturating_add(self.retention_ms.size())
+            .saturating_add(self.rows.size())
+    }
+
+    fn put(&self, out: &mut Vec<u8>) -> Result<(), Want> {
+        self.group.put(out)?;
+        self.generation.put(out)?;
+        self.member.put(out)?;
+        self.retention_ms.put(out)?;
+        self.rows.put(out)?;
+        Ok(())
+    }
+
+    fn read(alloc: Global, cursor: &mut Cursor) -> Result<OffsetCommitRequest, PrimNo> {
+        let group = Text::read(alloc, cursor)?;
+        let generation = i32::read(alloc, cursor)?;
+        let member = Text::read(alloc, cursor)?;
+        let retention_ms = i64::read(alloc, cursor)?;
+        let rows = Items::read(alloc, cursor)?;
+        Ok(OffsetCommitRequest {
+            group,
+            generation,
+            member,
+            retention_ms,
+            rows,
+        })
+    }
+
+    ghost laid = { offset_commit_request_laid };
+}
+
+/// A topic.
+#[derive(Drop)]
+pub struct OffsetCommitRequestRow {
+    pub name: Text,
+    pub rows: Items<OffsetCommitRequestRowRow>,
+}
+
+impl Laid for OffsetCommitRequestRow {
+    ghost layout = { offset_commit_request_row };
+
+    fn size(&self) -> usize {
+        self.name.size().saturating_add(self.rows.size())
+    }
+
+    fn put(&self, out: &mut Vec<u8>) -> Result<(), Want> {
+        self.name.put(out)?;
+        self.rows.put(out)?;
+        Ok(())
+    }
+
+    fn read(alloc: Global, cursor: &mut Cursor) -> Result<OffsetCommitRequestRow, PrimNo> {
+        let name = Text::read(alloc, cursor)?;
+        let rows = Items::read(alloc, cursor)?;
+        Ok(OffsetCommitRequestRow { name, rows })
+    }
+
+    ghost laid = { offset_commit_request_row_laid };
+}
+
+/// A partition and its offset.
+#[derive(Drop)]
+pub struct OffsetCommitRequestRowRow {
+    pub partition: i32,
+    pub offset: i64,
+    pub metadata: Option<Text>,
+}
+
+impl Laid for OffsetCommitRequestRowRow {
+    ghost layout = { offset_commit_request_row_row };
+
+    fn size(&self) -> usize {
+        self.partition
+            .size()
+            .saturating_add(self.offset.size())
+            .saturating_add(self.metadata.size())
+    }
+
+    fn put(&self, out: &mut Vec<u8>) -> Result<(), Want> {
+        self.partition.put(out)?;
+        self.offset.put(out)?;
+        self.metadata.put(out)?;
+        Ok(())
+    }
+
+    fn read(alloc: Global, cursor: &mut Cursor) -> Result<OffsetCommitRequestRowRow, PrimNo> {
+        let partition = i32::read(alloc, cursor)?;
+        let offset = i64::read(alloc, cursor)?;
+        let metadata = Option::read(alloc, cursor)?;
+        Ok(OffsetCommitRequestRowRow {
+            partition,
+            offset,
+            metadata,
+        })
+    }
+
+    ghost laid = { offset_commit_request_row_row_laid };
+}
+
+/// Which offsets were kept.
+#[derive(Drop)]
+pub struct OffsetCommitResponse {
+    pub rows: Items<OffsetCommitResponseRow>,
+}
+
+impl OffsetCommitResponse {
+    /// Reads a body.
+    pub fn read(alloc: Global, bytes: &[u8]) -> Result<OffsetCommitResponse, WireNo>
+        ensures { IsRead offset_commit_response bytes.now result }
+    {
+        read_whole(alloc, bytes)
+    }
+
+    /// Writes a body.
+    pub fn write(&self, alloc: Global) -> Result<Vec<u8>, Want>
+        ensures { IfOk result (λ out. IsWritten offset_commit_response 4 self.now out.items) }
+    {
+        write_whole(alloc, 4, self)
+    }
+}
+
+impl Laid for OffsetCommitResponse {
+    ghost layout = { offset_commit_response };
+
+    fn size(&self) -> usize {
+        self.rows.size()
+    }
+
+    fn put(&self, out: &mut Vec<u8>) -> Result<(), Want> {
+        self.rows.put(out)?;
+        Ok(())
+    }
+
+    fn read(alloc: Global, cursor: &mut Cursor) -> Result<OffsetCommitResponse, PrimNo> {
+        let rows = Items::read(alloc, cursor)?;
+        Ok(OffsetCommitResponse { rows })
+    }
+
+    ghost laid = { offset_commit_response_laid };
+}
+
+/// A topic.
+#[derive(Drop)]
+pub struct OffsetCommitResponseRow {
+    pub name: Text,
+    pub rows: Items<OffsetCommitResponseRowRow>,
+}
+
+impl Laid for OffsetCommitResponseRow {
+    ghost layout = { offset_commit_response_row };
+
+    fn size(&self) -> usize {
+        self.name.size().saturating_add(self.rows.size())
+    }
+
+    fn put(&self, out: &mut Vec<u8>) -> Result<(), Want> {
+        self.name.put(out)?;
+        self.rows.put(out)?;
+        Ok(())
+    }
+
+    fn read(alloc: Global, cursor: &mut Cursor) -> Result<OffsetCommitResponseRow, PrimNo> {
+        let name = Text::read(alloc, cursor)?;
+        let rows = Items::read(alloc, cursor)?;
+        Ok(OffsetCommitResponseRow { name, rows })
+    }
+
+    ghost laid = { offset_commit_response_row_laid };
+}
+
+/// A partition and its code.
+#[derive(Drop)]
+pub struct OffsetCommitResponseRowRow {
+    pub partition: i32,
+    pub code: i16,
+}
+
+impl Laid for OffsetCommitResponseRowRow {
+    ghost layout = { offset_commit_response_row_row };
+
+    fn size(&self) -> usize {
+        self.partition.size().saturating_add(self.code.size())
+    }
+
+    fn put(&self, out: &mut Vec<u8>) -> Result<(), Want> {
+        self.partition.put(out)?;
+        self.code.put(out)?;
+        Ok(())
+    }
+
+    fn read(alloc: Global, cursor: &mut Cursor) -> Result<OffsetCommitResponseRowRow, PrimNo> {
+        let partition = i32::read(alloc, cursor)?;
+        let code = i16::read(alloc, cursor)?;
+        Ok(OffsetCommitResponseRowRow { partition, code })
+    }
+
+    ghost laid = { offset_commit_response_row_row_laid };
+}

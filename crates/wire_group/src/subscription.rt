@@ -1,0 +1,66 @@
+//! What a member subscribes to.
+ghost use Rattle.std.specs.Prelude.{IfOk};
+ghost use Rattle.wire_group.specs.Versioned.{IsVersionedRead, IsVersionedWritten};
+ghost use Rattle.wire_group.specs.Subscription.{subscription, subscription_laid};
+
+use crate::versioned::{read_versioned, write_versioned};
+use gate_io::{Items, Text, Want};
+use std::alloc::Global;
+use wire_layout::{Laid, WireNo, put_nullable_piece, read_nullable_piece, size_of_nullable_piece};
+use wire_prim::{Cursor, PrimNo};
+
+/// The topics that a member asks for. Its version is 0.
+#[derive(Drop)]
+pub struct Subscription {
+    pub version: i16,
+    pub topic: Items<Text>,
+    pub user: Option<Items<u8>>,
+}
+
+impl Subscription {
+    /// Reads it in any version from 0 on. The further bytes of a higher one are left aside, and the version given is 0.
+    pub fn read(alloc: Global, bytes: &[u8]) -> Result<Subscription, WireNo>
+        ensures { IsVersionedRead subscription bytes.now result }
+    {
+        read_versioned(alloc, bytes)
+    }
+
+    /// Another version than 0 is answered by want.
+    pub fn write(&self, alloc: Global) -> Result<Vec<u8>, Want>
+        ensures { IfOk result (λ out. IsVersionedWritten subscription self.now out.items) }
+    {
+        write_versioned(alloc, self)
+    }
+}
+
+/// Of what stands behind the version.
+impl Laid for Subscription {
+    ghost layout = { subscription };
+
+    fn size(&self) -> usize {
+        self.topic
+            .size()
+            .saturating_add(size_of_nullable_piece(&self.user))
+    }
+
+    fn put(&self, out: &mut Vec<u8>) -> Result<(), Want> {
+        if self.version != 0 {
+            return Err(Want);
+        }
+        self.topic.put(out)?;
+        put_nullable_piece(out, &self.user)?;
+        Ok(())
+    }
+
+    fn read(alloc: Global, cursor: &mut Cursor) -> Result<Subscription, PrimNo> {
+        let topic = Items::read(alloc, cursor)?;
+        let user = read_nullable_piece(alloc, cursor)?;
+        Ok(Subscription {
+            version: 0,
+            topic,
+            user,
+        })
+    }
+
+    ghost laid = { subscription_laid };
+}

@@ -1,0 +1,147 @@
+//! SyncGroup, version 0.
+ghost use Rattle.std.specs.Prelude.{IfOk};
+ghost use Rattle.wire_layout.specs.Whole.{IsRead, IsWritten};
+ghost use Rattle.wire_group.specs.SyncGroup.{sync_group_request, sync_group_request_laid, sync_group_request_row, sync_group_request_row_laid, sync_group_response, sync_group_response_laid};
+
+use gate_io::{Items, Text, Want};
+use std::alloc::Global;
+use wire_layout::{Laid, WireNo, put_piece, read_piece, read_whole, size_of_piece, write_whole};
+use wire_prim::{Cursor, PrimNo};
+
+/// A member asks for its share, and the leader gives out the shares.
+#[derive(Drop)]
+pub struct SyncGroupRequest {
+    pub group: Text,
+    pub generation: i32,
+    pub member: Text,
+    pub rows: Items<SyncGroupRequestRow>,
+}
+
+impl SyncGroupRequest {
+    /// Reads a body.
+    pub fn read(alloc: Global, bytes: &[u8]) -> Result<SyncGroupRequest, WireNo>
+        ensures { IsRead sync_group_request bytes.now result }
+    {
+        read_whole(alloc, bytes)
+    }
+
+    /// Writes a body.
+    pub fn write(&self, alloc: Global) -> Result<Vec<u8>, Want>
+        ensures { IfOk result (λ out. IsWritten sync_group_request 10 self.now out.items) }
+    {
+        write_whole(alloc, 10, self)
+    }
+}
+
+impl Laid for SyncGroupRequest {
+    ghost layout = { sync_group_request };
+
+    fn size(&self) -> usize {
+        self.group
+            .size()
+            .saturating_add(self.generation.size())
+            .saturating_add(self.member.size())
+            .saturating_add(self.rows.size())
+    }
+
+    fn put(&self, out: &mut Vec<u8>) -> Result<(), Want> {
+        self.group.put(out)?;
+        self.generation.put(out)?;
+        self.member.put(out)?;
+        self.rows.put(out)?;
+        Ok(())
+    }
+
+    fn read(alloc: Global, cursor: &mut Cursor) -> Result<SyncGroupRequest, PrimNo> {
+        let group = Text::read(alloc, cursor)?;
+        let generation = i32::read(alloc, cursor)?;
+        let member = Text::read(alloc, cursor)?;
+        let rows = Items::read(alloc, cursor)?;
+        Ok(SyncGroupRequest {
+            group,
+            generation,
+            member,
+            rows,
+        })
+    }
+
+    ghost laid = { sync_group_request_laid };
+}
+
+/// A member's share, an `Assignment`.
+#[derive(Drop)]
+pub struct SyncGroupRequestRow {
+    pub member: Text,
+    pub assignment: Items<u8>,
+}
+
+impl Laid for SyncGroupRequestRow {
+    ghost layout = { sync_group_request_row };
+
+    fn size(&self) -> usize {
+        self.member
+            .size()
+            .saturating_add(size_of_piece(&self.assignment))
+    }
+
+    fn put(&self, out: &mut Vec<u8>) -> Result<(), Want> {
+        self.member.put(out)?;
+        put_piece(out, &self.assignment)?;
+        Ok(())
+    }
+
+    fn read(alloc: Global, cursor: &mut Cursor) -> Result<SyncGroupRequestRow, PrimNo> {
+        let member = Text::read(alloc, cursor)?;
+        let assignment = read_piece(alloc, cursor)?;
+        Ok(SyncGroupRequestRow { member, assignment })
+    }
+
+    ghost laid = { sync_group_request_row_laid };
+}
+
+/// The member's share, an `Assignment`.
+#[derive(Drop)]
+pub struct SyncGroupResponse {
+    pub code: i16,
+    pub assignment: Items<u8>,
+}
+
+impl SyncGroupResponse {
+    /// Reads a body.
+    pub fn read(alloc: Global, bytes: &[u8]) -> Result<SyncGroupResponse, WireNo>
+        ensures { IsRead sync_group_response bytes.now result }
+    {
+        read_whole(alloc, bytes)
+    }
+
+    /// Writes a body.
+    pub fn write(&self, alloc: Global) -> Result<Vec<u8>, Want>
+        ensures { IfOk result (λ out. IsWritten sync_group_response 4 self.now out.items) }
+    {
+        write_whole(alloc, 4, self)
+    }
+}
+
+impl Laid for SyncGroupResponse {
+    ghost layout = { sync_group_response };
+
+    fn size(&self) -> usize {
+        self.code
+            .size()
+            .saturating_add(size_of_piece(&self.assignment))
+    }
+
+    fn put(&self, out: &mut Vec<u8>) -> Result<(), Want> {
+        self.code.put(out)?;
+        put_piece(out, &self.assignment)?;
+        Ok(())
+    }
+
+    fn read(alloc: Global, cursor: &mut Cursor) -> Result<SyncGroupResponse, PrimNo> {
+        let code = i16::read(alloc, cursor)?;
+        let assignment = read_piece(alloc, cursor)?;
+        Ok(SyncGroupResponse { code, assignment })
+    }
+
+    ghost laid = { sync_group_response_laid };
+}

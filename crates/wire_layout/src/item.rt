@@ -1,0 +1,150 @@
+//! Items that stand in arrays, and those that don't.
+ghost use Rattle.std.specs.Prelude.{◌≡◌};
+ghost use Rattle.wire_layout.specs.Layout.{int8, int16, int32, int64, string, nullable_string};
+ghost use Rattle.wire_layout.specs.ItemLaws.{int8_laid, int16_laid, int32_laid, int64_laid, string_laid, nullable_string_laid};
+
+use crate::laid::Laid;
+use gate_io::{Text, Want};
+use std::alloc::Global;
+use wire_prim::{Cursor, PrimNo, put_int8, put_int16, put_int32, put_int64, put_string};
+
+#[tactic(auto, unfolding(crate::specs::Layout::int8))]
+impl Laid for i8 {
+    ghost layout = { int8 };
+
+    fn size(&self) -> usize {
+        1
+    }
+
+    fn put(&self, out: &mut Vec<u8>) -> Result<(), Want> {
+        put_int8(out, *self)
+    }
+
+    fn read(alloc: Global, cursor: &mut Cursor) -> Result<i8, PrimNo> {
+        let _ = alloc;
+        cursor.int8()
+    }
+
+    ghost laid = { int8_laid };
+}
+
+#[tactic(auto, unfolding(crate::specs::Layout::int16))]
+impl Laid for i16 {
+    ghost layout = { int16 };
+
+    fn size(&self) -> usize {
+        2
+    }
+
+    fn put(&self, out: &mut Vec<u8>) -> Result<(), Want> {
+        put_int16(out, *self)
+    }
+
+    fn read(alloc: Global, cursor: &mut Cursor) -> Result<i16, PrimNo> {
+        let _ = alloc;
+        cursor.int16()
+    }
+
+    ghost laid = { int16_laid };
+}
+
+#[tactic(auto, unfolding(crate::specs::Layout::int32))]
+impl Laid for i32 {
+    ghost layout = { int32 };
+
+    fn size(&self) -> usize {
+        4
+    }
+
+    fn put(&self, out: &mut Vec<u8>) -> Result<(), Want> {
+        put_int32(out, *self)
+    }
+
+    fn read(alloc: Global, cursor: &mut Cursor) -> Result<i32, PrimNo> {
+        let _ = alloc;
+        cursor.int32()
+    }
+
+    ghost laid = { int32_laid };
+}
+
+#[tactic(auto, unfolding(crate::specs::Layout::int64))]
+impl Laid for i64 {
+    ghost layout = { int64 };
+
+    fn size(&self) -> usize {
+        8
+    }
+
+    fn put(&self, out: &mut Vec<u8>) -> Result<(), Want> {
+        put_int64(out, *self)
+    }
+
+    fn read(alloc: Global, cursor: &mut Cursor) -> Result<i64, PrimNo> {
+        let _ = alloc;
+        cursor.int64()
+    }
+
+    ghost laid = { int64_laid };
+}
+
+#[tactic(auto, unfolding(crate::specs::Layout::string))]
+impl Laid for Text {
+    ghost layout = { string };
+
+    fn size(&self) -> usize {
+        self.as_bytes().len().saturating_add(2)
+    }
+
+    fn put(&self, out: &mut Vec<u8>) -> Result<(), Want> {
+        let text = self.as_str();
+        if text.len() > 0x7fff {
+            return Err(Want);
+        }
+        put_string(out, text)
+    }
+
+    fn read(alloc: Global, cursor: &mut Cursor) -> Result<Text, PrimNo> {
+        let size = cursor.int16()?;
+        let text = match cursor.text(i32::from(size)) {
+            Ok(text) => text,
+            Err(cause) => return Err(cause),
+        };
+        Ok(Text::from_str(alloc, text)?)
+    }
+
+    ghost laid = { string_laid };
+}
+
+#[tactic(auto, unfolding(crate::specs::Layout::nullable_string, crate::specs::Layout::string))]
+impl Laid for Option<Text> {
+    ghost layout = { nullable_string };
+
+    fn size(&self) -> usize {
+        match self {
+            Some(text) => text.size(),
+            None => 2,
+        }
+    }
+
+    fn put(&self, out: &mut Vec<u8>) -> Result<(), Want> {
+        match self {
+            Some(text) => text.put(out),
+            None => put_int16(out, -1),
+        }
+    }
+
+    fn read(alloc: Global, cursor: &mut Cursor) -> Result<Option<Text>, PrimNo> {
+        let size = cursor.int16()?;
+        if size == -1 {
+            return Ok(None);
+        }
+        let text = match cursor.text(i32::from(size)) {
+            Ok(text) => text,
+            Err(cause) => return Err(cause),
+        };
+        Ok(Some(Text::from_str(alloc, text)?))
+    }
+
+    ghost laid = { nullable_string_laid };
+}
