@@ -1,0 +1,13 @@
+pub mod PickLemmas
+pub mod EncodeLemmas
+pub mod VarintLemmas
+pub mod ReadLemmas
+pub mod DecodeLemmas
+pub mod ItemSound
+pub mod BlockSound
+pub mod ValueSound
+pub mod ItemAgain
+pub mod ValueAgain
+pub mod PlainLaws
+pub mod JudgeLaws
+pub mod Whole

@@ -1,0 +1,152 @@
+-- From what was added to nodes and definitions to what they stand for.
+use Rattle.std.proofs.Common.{◌≡◌, ℕ, zero, suc, List, [], ◌∷◌, ◌++◌, length, true, ◌||◌, Some, Result, Ok, Err, IfOk, IfErr, ◌⊎◌, inl, inr, refl, sym, ap, ◌∙◌, subst, append_assoc, arith}
+use Rattle.std.specs.List.{slice_get}
+use Rattle.std.proofs.lemmas.List.{append-nil}
+use Rattle.avro_schema.specs.Types.{AvroType, Defined, definitions}
+use Rattle.avro_schema.specs.Forms.{type_of, types_of, AreBefore, EachBefore}
+use Rattle.avro_schema.specs.Reading.{Outcome, is_among}
+use Rattle.avro_schema.specs.Building.{names_in, names_of, FirstNamed, IsBuilt, DefinesIn, Grows, Makes, Tells, defined_at}
+use Rattle.avro_schema.specs.declared.parts.Form.{Form}
+use Rattle.avro_schema.specs.declared.parts.Form.TheVariants.{Named}
+use Rattle.avro_schema.specs.declared.parts.Definition.{Definition}
+use Rattle.avro_schema.specs.declared.parts.Parts.{Parts}
+use Rattle.avro_schema.specs.declared.error.SchemaNo.{SchemaNo}
+use Rattle.avro_schema.specs.declared.error.SchemaNo.TheVariants.{Want}
+use Rattle.avro_schema.proofs.Grown.{stands_stay, each_push, length-types_of, types_of-push}
+
+-- ---- lists
+
+pub get_front : {X : Type 0} (xs ys : List X) (k : ℕ) (x : X) → slice_get xs k ≡ Some x → slice_get (xs ++ ys) k ≡ Some x
+get_front [] ys k x h = absurd cc
+get_front (y ∷ xs) ys zero x h = h
+get_front (y ∷ xs) ys (suc k) x h = get_front xs ys k x h
+
+pub get_last : {X : Type 0} (xs : List X) (x : X) → slice_get (xs ++ (x ∷ [])) (length xs) ≡ Some x
+get_last [] x = refl
+get_last (y ∷ xs) x = get_last xs x
+
+pub get_push : {X : Type 0} (xs : List X) (y : X) (k : ℕ) (x : X) → slice_get (xs ++ (y ∷ [])) k ≡ Some x → (slice_get xs k ≡ Some x) ⊎ (y ≡ x)
+get_push [] y zero x h = inr cc
+get_push [] y (suc k) x h = absurd cc
+get_push (z ∷ xs) y zero x h = inl h
+get_push (z ∷ xs) y (suc k) x h = get_push xs y k x h
+
+-- ---- definitions
+
+pub names_in-append : (xs ys : List Definition) → names_in (xs ++ ys) ≡ names_in xs ++ names_in ys
+names_in-append [] ys = refl
+names_in-append (x ∷ xs) ys = ap (λ ns. x.name ∷ ns) (names_in-append xs ys)
+
+pub names_in-defined_at : (xs : List Definition) (d node : ℕ) → names_in (defined_at xs d node) ≡ names_in xs
+names_in-defined_at [] d node = refl
+names_in-defined_at (x ∷ xs) zero node = refl
+names_in-defined_at (x ∷ xs) (suc d) node = ap (λ ns. x.name ∷ ns) (names_in-defined_at xs d node)
+
+pub first_stays : (xs ys : List Definition) (name : List ℕ) (d : ℕ) → FirstNamed xs name d → FirstNamed (xs ++ ys) name d
+first_stays [] ys name d h = absurd h
+first_stays (x ∷ xs) ys name zero h = h
+first_stays (x ∷ xs) ys name (suc d) h = (h.0, first_stays xs ys name d h.1)
+
+pub first_defined_at : (xs : List Definition) (i node : ℕ) (name : List ℕ) (d : ℕ) → FirstNamed xs name d → FirstNamed (defined_at xs i node) name d
+first_defined_at [] i node name d h = absurd h
+first_defined_at (x ∷ xs) zero node name zero h = h
+first_defined_at (x ∷ xs) zero node name (suc d) h = h
+first_defined_at (x ∷ xs) (suc i) node name zero h = h
+first_defined_at (x ∷ xs) (suc i) node name (suc d) h = (h.0, first_defined_at xs i node name d h.1)
+
+pub first_among : (xs : List Definition) (name : List ℕ) (d : ℕ) → FirstNamed xs name d → is_among name (names_in xs) ≡ true
+first_among [] name d h = absurd h
+first_among (x ∷ xs) name zero h = ap (λ t. t || is_among name (names_in xs)) h
+first_among (x ∷ xs) name (suc d) h = ap (λ t. t || is_among name (names_in xs)) h.0 ∙ first_among xs name d h.1
+
+pub defined_at-behind : (xs ys : List Definition) (name : List ℕ) (old node : ℕ) → defined_at ((xs ++ ((record { name = name; node = old }) ∷ [])) ++ ys) (length xs) node ≡ xs ++ ((record { name = name; node = node }) ∷ ys)
+defined_at-behind [] ys name old node = refl
+defined_at-behind (x ∷ xs) ys name old node = ap (λ zs. x ∷ zs) (defined_at-behind xs ys name old node)
+
+pub defines_stay : (fs more : List Form) (xs : List Definition) (ds : List Defined) → DefinesIn (types_of fs) xs ds → DefinesIn (types_of (fs ++ more)) xs ds
+defines_stay fs more [] [] h = tt
+defines_stay fs more [] (d ∷ ds) h = absurd h
+defines_stay fs more (x ∷ xs) [] h = absurd h
+defines_stay fs more (x ∷ xs) (d ∷ ds) h = (h.0, stands_stay fs more x.node d.type h.1, defines_stay fs more xs ds h.2)
+
+pub defines_both : (ts : List AvroType) (xs ys : List Definition) (ds es : List Defined) → DefinesIn ts xs ds → DefinesIn ts ys es → DefinesIn ts (xs ++ ys) (ds ++ es)
+defines_both ts [] ys [] es h i = i
+defines_both ts [] ys (d ∷ ds) es h i = absurd h
+defines_both ts (x ∷ xs) ys [] es h i = absurd h
+defines_both ts (x ∷ xs) ys (d ∷ ds) es h i = (h.0, h.1, defines_both ts xs ys ds es h.2 i)
+
+-- ---- parts
+
+-- p has the nodes and definitions of q
+pub record Same (p q : Parts) : Type 0 where
+  pub nodes : p.nodes.items ≡ q.nodes.items
+  pub definitions : p.definitions.items ≡ q.definitions.items
+
+pub built_same : (p q : Parts) → p.nodes.items ≡ q.nodes.items → p.definitions.items ≡ q.definitions.items → IsBuilt p → IsBuilt q
+built_same p q n d b =
+    let P : List Form → Type 0 = λ fs. EachBefore 0 fs in
+    let Q : List Definition → Type 0 = λ xs. (k : ℕ) (name : List ℕ) (e : ℕ) → slice_get q.nodes.items k ≡ Some (Named name e) → FirstNamed xs name e in
+    record { before = subst P n b.before; leads = subst Q d (λ k name e h. b.leads k name e (ap (λ fs. slice_get fs k) n ∙ h)) }
+
+pub grows_refl : (p : Parts) → IsBuilt p → Grows p p []
+grows_refl p b = record { more = []; nodes_are = sym (append-nil p.nodes.items); made = []; definitions_are = sym (append-nil p.definitions.items); define = tt; built = b }
+
+pub grows_trans : (p q r : Parts) (ds es : List Defined) → Grows p q ds → Grows q r es → Grows p r (ds ++ es)
+grows_trans p q r ds es g h =
+    let P : List Form → Type 0 = λ fs. DefinesIn (types_of fs) g.made ds in
+    record {
+      more = g.more ++ h.more;
+      nodes_are = h.nodes_are ∙ ap (λ fs. fs ++ h.more) g.nodes_are ∙ append_assoc p.nodes.items g.more h.more;
+      made = g.made ++ h.made;
+      definitions_are = h.definitions_are ∙ ap (λ xs. xs ++ h.made) g.definitions_are ∙ append_assoc p.definitions.items g.made h.made;
+      define = defines_both (types_of r.nodes.items) g.made h.made ds es (subst P (sym h.nodes_are) (defines_stay q.nodes.items h.more g.made ds g.define)) h.define;
+      built = h.built;
+    }
+
+pub grows_along : (p q : Parts) (ds es : List Defined) → ds ≡ es → Grows p q ds → Grows p q es
+grows_along p q ds es e g = let P : List Defined → Type 0 = λ xs. Grows p q xs in subst P e g
+
+-- what stands in the old nodes stands in the new
+pub stands_later : (p q : Parts) (ds : List Defined) (k : ℕ) (t : AvroType) → Grows p q ds → slice_get (types_of p.nodes.items) k ≡ Some t → slice_get (types_of q.nodes.items) k ≡ Some t
+stands_later p q ds k t g h = let P : List Form → Type 0 = λ fs. slice_get (types_of fs) k ≡ Some t in subst P (sym g.nodes_are) (stands_stay p.nodes.items g.more k t h)
+
+-- one node more
+pub built_push : (p q : Parts) (f : Form) → IsBuilt p → q.nodes.items ≡ p.nodes.items ++ (f ∷ []) → q.definitions.items ≡ p.definitions.items → AreBefore (length p.nodes.items) f
+    → ((name : List ℕ) (d : ℕ) → f ≡ Named name d → FirstNamed p.definitions.items name d) → IsBuilt q
+built_push p q f b n d before named =
+    let P : List Form → Type 0 = λ fs. EachBefore 0 fs in
+    let Q : List Definition → Type 0 = λ xs. (k : ℕ) (name : List ℕ) (e : ℕ) → slice_get q.nodes.items k ≡ Some (Named name e) → FirstNamed xs name e in
+    let leads = λ (k : ℕ) (name : List ℕ) (e : ℕ) (h : slice_get q.nodes.items k ≡ Some (Named name e)).
+    let G : (slice_get p.nodes.items k ≡ Some (Named name e)) ⊎ (f ≡ Named name e) → Type 0 = λ s. FirstNamed p.definitions.items name e in
+    elim (get_push p.nodes.items f k (Named name e) (ap (λ fs. slice_get fs k) (sym n) ∙ h)) as G [ inl old ↦ b.leads k name e old | inr new ↦ named name e new ] in
+    record { before = subst P (sym n) (each_push 0 p.nodes.items f (length p.nodes.items) b.before (omega arith) before); leads = subst Q (sym d) leads }
+
+pub pushed : (p q : Parts) (f : Form) → IsBuilt p → q.nodes.items ≡ p.nodes.items ++ (f ∷ []) → q.definitions.items ≡ p.definitions.items → AreBefore (length p.nodes.items) f
+    → ((name : List ℕ) (d : ℕ) → f ≡ Named name d → FirstNamed p.definitions.items name d) → Grows p q []
+pushed p q f b n d before named =
+    record { more = f ∷ []; nodes_are = n; made = []; definitions_are = d ∙ sym (append-nil p.definitions.items); define = tt; built = built_push p q f b n d before named }
+
+pub push_stands : (p q : Parts) (f : Form) → q.nodes.items ≡ p.nodes.items ++ (f ∷ []) → slice_get (types_of q.nodes.items) (length p.nodes.items) ≡ Some (type_of (types_of p.nodes.items) f)
+push_stands p q f n =
+    let P : List AvroType → Type 0 = λ ts. slice_get ts (length p.nodes.items) ≡ Some (type_of (types_of p.nodes.items) f) in
+    let Q : ℕ → Type 0 = λ i. slice_get (types_of p.nodes.items ++ (type_of (types_of p.nodes.items) f ∷ [])) i ≡ Some (type_of (types_of p.nodes.items) f) in
+    subst P (sym (ap types_of n ∙ types_of-push p.nodes.items f)) (subst Q (length-types_of p.nodes.items) (get_last (types_of p.nodes.items) (type_of (types_of p.nodes.items) f)))
+
+-- a node that is added behind what was read
+pub made_push : (o : Outcome AvroType) (p q r : Parts) (f : Form) (t : AvroType) (k : ℕ) (ds : List Defined) → Grows p q ds → o ≡ Ok (record { value = t; names = names_of q }) → k ≡ length q.nodes.items → r.nodes.items ≡ q.nodes.items ++ (f ∷ [])
+    → r.definitions.items ≡ q.definitions.items → AreBefore (length q.nodes.items) f → ((name : List ℕ) (d : ℕ) → f ≡ Named name d → FirstNamed q.definitions.items name d) → type_of (types_of q.nodes.items) f ≡ t → definitions t ≡ ds
+    → Makes o p r k
+made_push o p q r f t k ds g is place n d before named type defines =
+    let P : ℕ → Type 0 = λ i. slice_get (types_of r.nodes.items) i ≡ Some t in
+    record {
+      t = t;
+      is = is ∙ ap (λ xs. Ok (record { value = t; names = names_in xs })) (sym d);
+      stands = subst P (sym place) (push_stands q r f n ∙ ap (λ x. Some x) type);
+      grows = grows_along p r (ds ++ []) (definitions t) (append-nil ds ∙ sym defines) (grows_trans p q r ds [] g (pushed q r f g.built n d before named));
+    }
+
+pub tells_push : (o : Outcome AvroType) (p q r : Parts) (f : Form) (t : AvroType) (res : Result ℕ SchemaNo) (ds : List Defined) → Grows p q ds → o ≡ Ok (record { value = t; names = names_of q })
+    → IfOk res (λ k. (k ≡ length q.nodes.items) × (r.nodes.items ≡ q.nodes.items ++ (f ∷ []))) → IfErr res (λ e. e ≡ Want) → r.definitions.items ≡ q.definitions.items → AreBefore (length q.nodes.items) f
+    → ((name : List ℕ) (d : ℕ) → f ≡ Named name d → FirstNamed q.definitions.items name d) → type_of (types_of q.nodes.items) f ≡ t → definitions t ≡ ds → Tells o p r res
+tells_push o p q r f t (Ok k) ds g is ok want d before named type defines = made_push o p q r f t k ds g is ok.0 ok.1 d before named type defines
+tells_push o p q r f t (Err e) ds g is ok want d before named type defines = inr want

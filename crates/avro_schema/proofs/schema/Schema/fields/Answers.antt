@@ -1,0 +1,8 @@
+use Rattle.avro_schema.proofs.Found as found
+use Rattle.avro_schema.proofs.schema.Schema.fields.Goals as goal
+
+pub form_of-requires-clause-inside : goal.form_of-requires-clause-inside
+form_of-requires-clause-inside c = found.has_node _ _ _ _ c.self.view_is c.self.invariant _ _ c.requires.2.1
+
+pub returns : goal.returns
+returns c = λ n fs r. rw c.fields_in.ensures (found.fields_are _ _ _ _ c.self.view_is c.self.invariant _ _ (c.form_of.ensures _ c.self.invariant) n fs r)

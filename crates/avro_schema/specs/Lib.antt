@@ -1,0 +1,9 @@
+pub mod Types
+pub mod Names
+pub mod Canonical
+pub mod Reading
+pub mod Refusals
+pub mod Forms
+pub mod Nodes
+pub mod Picks
+pub mod Building

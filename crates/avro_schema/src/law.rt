@@ -1,0 +1,10 @@
+ghost use Rattle.std.specs.Prelude.{ℕ, List, Bool, true};
+ghost use Rattle.avro_schema.specs.Types.{AvroType};
+ghost use Rattle.avro_schema.specs.Canonical.{canonical_form};
+ghost use Rattle.avro_schema.specs.Reading.{ReadsAs};
+
+/// The canonical form of each schema that is read reads, with every name taken as a fullname, as that schema.
+pub fn canonical_forms_read_back()
+    ensures { (canonical : Bool) (bytes : List ℕ) (t : AvroType)
+        → ReadsAs canonical bytes t → ReadsAs true (canonical_form t) t }
+{}

@@ -1,0 +1,22 @@
+//! Avro schemas: read from JSON by the public specification, with their Parsing Canonical Form.
+#![tactic(auto)]
+
+mod canonical;
+mod error;
+mod law;
+mod lookup;
+mod members;
+mod named;
+mod names;
+mod parts;
+mod pick;
+mod read;
+mod reader;
+mod schema;
+#[cfg(test)]
+mod tests;
+
+pub use error::SchemaNo;
+pub use law::canonical_forms_read_back;
+pub use parts::Field;
+pub use schema::{Kind, Schema};

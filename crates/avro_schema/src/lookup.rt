@@ -1,0 +1,75 @@
+ghost use Rattle.std.specs.Prelude.{◌≡◌, ◌<◌, ℕ, List, length};
+ghost use Rattle.avro_schema.specs.Types.{AvroType, Branches, Fields, union, enum_, record_, branch_name};
+ghost use Rattle.avro_schema.specs.Nodes.{tree_of, Stands, HasNode, Resolves, StandForBranches, StandForFields, IsKindOf, IsOfKind};
+ghost use Rattle.avro_schema.specs.Forms.{IsSchema, IsFormOf};
+
+use crate::parts::{Definition, Field, Form};
+use crate::pick::{branches_in, fields_in, kind_in, name_in, symbols_in};
+use crate::schema::{Kind, Schema};
+use gate_io::Text;
+
+/// The form of a node, or of the definition that it refers to.
+fn form_of<'a>(nodes: &'a Vec<Form>, definitions: &Vec<Definition>, node: u32) -> &'a Form
+    requires schema { (root : ℕ) × IsSchema nodes.now.items definitions.now.items root }
+    requires inside { node < length nodes.now.items }
+    ensures { (root : ℕ) → IsSchema nodes.now.items definitions.now.items root
+        → IsFormOf nodes.now.items root node result.now }
+{
+    let form = &nodes[node as usize];
+    match form {
+        Form::Named(_, definition) => &nodes[definitions[*definition as usize].node as usize],
+        _ => form,
+    }
+}
+
+impl Schema {
+    /// The node of the whole schema.
+    pub fn root(&self) -> u32
+        ensures { Stands self.now result (tree_of self.now) }
+    {
+        self.parts.root
+    }
+
+    /// What the node is.
+    pub fn kind(&self, node: u32) -> Kind
+        requires { HasNode self.now node }
+        ensures value { (u : AvroType) → Resolves self.now node u → IsKindOf self.now u result }
+        ensures is { IsOfKind self.now node result }
+    {
+        kind_in(form_of(&self.parts.nodes, &self.parts.definitions, node))
+    }
+
+    /// The nodes of a union's branches in order.
+    pub fn branches(&self, node: u32) -> &[u32]
+        requires { (bs : Branches) × Resolves self.now node (union bs) }
+        ensures { (bs : Branches) → Resolves self.now node (union bs) → StandForBranches self.now result.now bs }
+    {
+        branches_in(form_of(&self.parts.nodes, &self.parts.definitions, node))
+    }
+
+    /// The symbols of an enum in order.
+    pub fn symbols(&self, node: u32) -> &[Text]
+        requires { (name : List ℕ) × (symbols : List (List ℕ)) × Resolves self.now node (enum_ name symbols) }
+        ensures { (name : List ℕ) (symbols : List (List ℕ)) → Resolves self.now node (enum_ name symbols)
+            → result.now ≡ symbols }
+    {
+        symbols_in(form_of(&self.parts.nodes, &self.parts.definitions, node))
+    }
+
+    /// The fields of a record in order.
+    pub fn fields(&self, node: u32) -> &[Field]
+        requires { (name : List ℕ) × (fs : Fields) × Resolves self.now node (record_ name fs) }
+        ensures { (name : List ℕ) (fs : Fields) → Resolves self.now node (record_ name fs)
+            → StandForFields self.now result.now fs }
+    {
+        fields_in(form_of(&self.parts.nodes, &self.parts.definitions, node))
+    }
+
+    /// The name of a union's branch in Avro's JSON encoding: its fullname, or the name of its kind.
+    pub fn branch_name(&self, branch: u32) -> &str
+        requires { HasNode self.now branch }
+        ensures { (t : AvroType) → Stands self.now branch t → result.now ≡ branch_name t }
+    {
+        name_in(&self.parts.nodes[branch as usize])
+    }
+}

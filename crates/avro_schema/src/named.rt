@@ -1,0 +1,412 @@
+ghost use Rattle.std.specs.Prelude.{◌≡◌, ◌<◌, [], length, All, Option, IfOk, IfErr, true};
+ghost use Rattle.json_span.specs.Json.{Json, Members, Items, object};
+ghost use Rattle.json_span.specs.Nodes.{Stands, StandForItems};
+ghost use Rattle.avro_schema.specs.Names.{are_parts};
+ghost use Rattle.avro_schema.specs.Reading.{is_among, last_member, type_by_name, known, full_name, given_name, defined_name, part_name, symbols_read, symbols_of, digits_size, size_of, enum_read, fixed_read};
+ghost use Rattle.avro_schema.specs.Building.{names_of, IsBuilt, IsMember, Tells, Gives, Why, NamesNew, names_of_fields, names_of_branches, primitive_form};
+ghost use Rattle.avro_schema.specs.Types.{branch_name};
+ghost use Rattle.avro_schema.specs.Forms.{type_at, types_of, EachBefore};
+
+use crate::error::SchemaNo;
+use crate::members::{items_at, member, member_text, text_at};
+use crate::names::{has_dot, in_namespace, is_definable, is_float, is_part};
+use crate::parts::{Field, Form, Parts};
+use crate::pick::name_in;
+use gate_io::Text;
+use json_span::{Kind, Tree};
+use std::alloc::Global;
+
+/// The form of a primitive type.
+#[tactic(auto, unfolding(crate::specs::Building::primitive_form))]
+fn primitive(name: &str) -> Option<Form>
+    ensures { result ≡ primitive_form name.now }
+{
+    if name == "null" {
+        return Some(Form::Null);
+    }
+    if name == "boolean" {
+        return Some(Form::Boolean);
+    }
+    if name == "int" {
+        return Some(Form::Int);
+    }
+    if name == "long" {
+        return Some(Form::Long);
+    }
+    if name == "bytes" {
+        return Some(Form::Bytes);
+    }
+    if name == "string" {
+        return Some(Form::Text);
+    }
+    None
+}
+
+/// A name as a fullname. In canonical reading it is one, as is each name with a dot.
+fn full_name(alloc: Global, canonical: bool, namespace: &str, name: &str) -> Result<Text, SchemaNo>
+    ensures ok { IfOk result (λ t. t ≡ full_name canonical namespace.now name.now) }
+    ensures want { IfErr result (λ e. e ≡ SchemaNo.Want) }
+{
+    if canonical || has_dot(name.as_bytes()) {
+        match Text::from_str(alloc, name) {
+            Ok(text) => Ok(text),
+            Err(_) => Err(SchemaNo::Want),
+        }
+    } else {
+        in_namespace(alloc, namespace, name)
+    }
+}
+
+/// A reference to a type that was defined before.
+fn reference(name: Text, parts: &mut Parts) -> Result<u32, SchemaNo>
+    requires { IsBuilt parts.old }
+    ensures { Tells (known (names_of parts.old) name) parts.old parts.new result }
+{
+    let Some(found) = parts.find(name.as_str()) else {
+        return Err(SchemaNo::UnknownName);
+    };
+    let Ok(definition) = u32::try_from(found) else {
+        return Err(SchemaNo::Want);
+    };
+    parts.add(Form::Named(name, definition))
+}
+
+/// A type by its name: a primitive's, or that of one which was defined before.
+pub(crate) fn type_by_name(
+    alloc: Global,
+    canonical: bool,
+    namespace: &str,
+    name: &str,
+    parts: &mut Parts,
+) -> Result<u32, SchemaNo>
+    requires { IsBuilt parts.old }
+    ensures { Tells (type_by_name canonical (names_of parts.old) namespace.now name.now) parts.old parts.new result }
+{
+    match primitive(name) {
+        Some(form) => parts.add(form),
+        None => {
+            if is_float(name) {
+                return Err(SchemaNo::Float);
+            }
+            match full_name(alloc, canonical, namespace, name) {
+                Ok(text) => reference(text, parts),
+                Err(e) => Err(e),
+            }
+        }
+    }
+}
+
+/// The fullname that an object gives, by its members of these nodes.
+fn given_name(
+    alloc: Global,
+    tree: &Tree,
+    canonical: bool,
+    enclosing: &str,
+    name: Option<u32>,
+    namespace: Option<u32>,
+) -> Result<Text, SchemaNo>
+    requires name { (o : Option Json) × IsMember tree.now o name }
+    requires namespace { (o : Option Json) × IsMember tree.now o namespace }
+    ensures ok { (o n : Option Json) → IsMember tree.now o name → IsMember tree.now n namespace
+        → IfOk result (λ t. given_name canonical enclosing.now o n ≡ Ok t) }
+    ensures err { (o n : Option Json) → IsMember tree.now o name → IsMember tree.now n namespace
+        → IfErr result (Why (given_name canonical enclosing.now o n)) }
+{
+    let Some(given) = member_text(tree, name) else {
+        return Err(SchemaNo::BadType);
+    };
+    if canonical || has_dot(given.as_bytes()) {
+        return match Text::from_str(alloc, given) {
+            Ok(text) => Ok(text),
+            Err(_) => Err(SchemaNo::Want),
+        };
+    }
+    match namespace {
+        None => in_namespace(alloc, enclosing, given),
+        Some(node) => match text_at(tree, node) {
+            Some(own) => in_namespace(alloc, own, given),
+            None => Err(SchemaNo::BadType),
+        },
+    }
+}
+
+/// The fullname of the type that an object defines.
+pub(crate) fn defined_name(
+    alloc: Global,
+    tree: &Tree,
+    canonical: bool,
+    enclosing: &str,
+    node: u32,
+    parts: &Parts,
+) -> Result<Text, SchemaNo>
+    requires { (ms : Members) × Stands tree.now node (object ms) }
+    ensures ok { (ms : Members) → Stands tree.now node (object ms)
+        → IfOk result (λ t. defined_name canonical (names_of parts.now) enclosing.now ms ≡ Ok t) }
+    ensures err { (ms : Members) → Stands tree.now node (object ms)
+        → IfErr result (Why (defined_name canonical (names_of parts.now) enclosing.now ms)) }
+    ensures parts { IfOk result (λ t. are_parts t ≡ true) }
+{
+    let given = given_name(
+        alloc,
+        tree,
+        canonical,
+        enclosing,
+        member(tree, node, "name"),
+        member(tree, node, "namespace"),
+    );
+    match given {
+        Ok(name) => match parts.find(name.as_str()) {
+            Some(_) => Err(SchemaNo::Redefined),
+            None => {
+                if is_definable(name.as_str()) {
+                    Ok(name)
+                } else {
+                    Err(SchemaNo::BadName)
+                }
+            }
+        },
+        Err(e) => Err(e),
+    }
+}
+
+/// Defines the type that an object names. Its node is to come.
+pub(crate) fn define(
+    alloc: Global,
+    tree: &Tree,
+    canonical: bool,
+    enclosing: &str,
+    node: u32,
+    parts: &mut Parts,
+) -> Result<(Text, usize), SchemaNo>
+    requires { (ms : Members) × Stands tree.now node (object ms) }
+    ensures ok { (ms : Members) → Stands tree.now node (object ms)
+        → IfOk result (λ r. NamesNew (defined_name canonical (names_of parts.old) enclosing.now ms)
+        parts.old parts.new r.0 r.1) }
+    ensures err { (ms : Members) → Stands tree.now node (object ms)
+        → IfErr result (Why (defined_name canonical (names_of parts.old) enclosing.now ms)) }
+{
+    match defined_name(alloc, tree, canonical, enclosing, node, parts) {
+        Ok(name) => match Text::from_str(alloc, name.as_str()) {
+            Ok(copy) => match parts.define(copy) {
+                Ok(definition) => Ok((name, definition)),
+                Err(e) => Err(e),
+            },
+            Err(_) => Err(SchemaNo::Want),
+        },
+        Err(e) => Err(e),
+    }
+}
+
+/// An object as an enum.
+pub(crate) fn read_enum(
+    alloc: Global,
+    tree: &Tree,
+    canonical: bool,
+    namespace: &str,
+    node: u32,
+    parts: &mut Parts,
+) -> Result<u32, SchemaNo>
+    requires built { IsBuilt parts.old }
+    requires node { (ms : Members) × Stands tree.now node (object ms) }
+    ensures { (ms : Members) → Stands tree.now node (object ms)
+        → Tells (enum_read canonical (names_of parts.old) namespace.now ms) parts.old parts.new result }
+{
+    match define(alloc, tree, canonical, namespace, node, parts) {
+        Ok((name, definition)) => match symbols_of(alloc, tree, member(tree, node, "symbols")) {
+            Ok(symbols) => parts.finish(definition, Form::Enum(name, symbols)),
+            Err(e) => Err(e),
+        },
+        Err(e) => Err(e),
+    }
+}
+
+/// An object as a fixed.
+pub(crate) fn read_fixed(
+    alloc: Global,
+    tree: &Tree,
+    canonical: bool,
+    namespace: &str,
+    node: u32,
+    parts: &mut Parts,
+) -> Result<u32, SchemaNo>
+    requires built { IsBuilt parts.old }
+    requires node { (ms : Members) × Stands tree.now node (object ms) }
+    ensures { (ms : Members) → Stands tree.now node (object ms)
+        → Tells (fixed_read canonical (names_of parts.old) namespace.now ms) parts.old parts.new result }
+{
+    match define(alloc, tree, canonical, namespace, node, parts) {
+        Ok((name, definition)) => match size_of(tree, member(tree, node, "size")) {
+            Ok(size) => parts.finish(definition, Form::Fixed(name, size)),
+            Err(e) => Err(e),
+        },
+        Err(e) => Err(e),
+    }
+}
+
+/// A field's name, after those before it.
+pub(crate) fn field_name(
+    alloc: Global,
+    tree: &Tree,
+    node: Option<u32>,
+    seen: &Vec<Field>,
+) -> Result<Text, SchemaNo>
+    requires { (o : Option Json) × IsMember tree.now o node }
+    ensures ok { (o : Option Json) → IsMember tree.now o node
+        → IfOk result (λ t. part_name (names_of_fields seen.now.items) o ≡ Ok t) }
+    ensures err { (o : Option Json) → IsMember tree.now o node
+        → IfErr result (Why (part_name (names_of_fields seen.now.items) o)) }
+{
+    let Some(name) = member_text(tree, node) else {
+        return Err(SchemaNo::BadType);
+    };
+    if !is_part(name.as_bytes()) {
+        return Err(SchemaNo::BadName);
+    }
+    if has_field(name, seen) {
+        return Err(SchemaNo::BadType);
+    }
+    match Text::from_str(alloc, name) {
+        Ok(text) => Ok(text),
+        Err(_) => Err(SchemaNo::Want),
+    }
+}
+
+fn has_field(name: &str, fields: &Vec<Field>) -> bool
+    ensures { result ≡ is_among name.now (names_of_fields fields.now.items) }
+{
+    for field in fields {
+        if field.name.as_str() == name {
+            return true;
+        }
+    }
+    false
+}
+
+/// A branch of the kind or the fullname of this type is among the branches.
+pub(crate) fn is_repeated(parts: &Parts, branches: &Vec<u32>, node: u32) -> bool
+    requires before { EachBefore 0 parts.now.nodes.items }
+    requires node { node < length parts.now.nodes.items }
+    requires inside { All (λ k. k < length parts.now.nodes.items) branches.now.items }
+    ensures { result ≡ is_among (branch_name (type_at (types_of parts.now.nodes.items) node))
+        (names_of_branches (types_of parts.now.nodes.items) branches.now.items) }
+{
+    let name = name_in(&parts.nodes[node as usize]);
+    for branch in branches {
+        if name_in(&parts.nodes[*branch as usize]) == name {
+            return true;
+        }
+    }
+    false
+}
+
+/// A symbol, after those before it.
+fn part_name(
+    alloc: Global,
+    tree: &Tree,
+    node: Option<u32>,
+    seen: &Vec<Text>,
+) -> Result<Text, SchemaNo>
+    requires { (o : Option Json) × IsMember tree.now o node }
+    ensures ok { (o : Option Json) → IsMember tree.now o node → IfOk result (λ t. part_name seen.now.items o ≡ Ok t) }
+    ensures err { (o : Option Json) → IsMember tree.now o node → IfErr result (Why (part_name seen.now.items o)) }
+{
+    let Some(name) = member_text(tree, node) else {
+        return Err(SchemaNo::BadType);
+    };
+    if !is_part(name.as_bytes()) {
+        return Err(SchemaNo::BadName);
+    }
+    if is_among(name, seen) {
+        return Err(SchemaNo::BadType);
+    }
+    match Text::from_str(alloc, name) {
+        Ok(text) => Ok(text),
+        Err(_) => Err(SchemaNo::Want),
+    }
+}
+
+fn is_among(name: &str, names: &Vec<Text>) -> bool
+    ensures { result ≡ is_among name.now names.now.items }
+{
+    for other in names {
+        if other.as_str() == name {
+            return true;
+        }
+    }
+    false
+}
+
+/// The symbols of an enum, by the member of this node.
+fn symbols_of(alloc: Global, tree: &Tree, node: Option<u32>) -> Result<Vec<Text>, SchemaNo>
+    requires { (o : Option Json) × IsMember tree.now o node }
+    ensures ok { (o : Option Json) → IsMember tree.now o node → IfOk result (λ v. symbols_of o ≡ Ok v.items) }
+    ensures err { (o : Option Json) → IsMember tree.now o node → IfErr result (Why (symbols_of o)) }
+{
+    let Some(at) = node else {
+        return Err(SchemaNo::BadType);
+    };
+    let Some(items) = items_at(tree, at) else {
+        return Err(SchemaNo::BadType);
+    };
+    match symbols(alloc, tree, items) {
+        Ok(found) => Ok(found),
+        Err(e) => Err(e),
+    }
+}
+
+/// The symbols that are the items.
+fn symbols(alloc: Global, tree: &Tree, items: &[u32]) -> Result<Vec<Text>, SchemaNo>
+    requires { (js : Items) × StandForItems tree.now items.now js }
+    ensures ok { (js : Items) → StandForItems tree.now items.now js
+        → IfOk result (λ v. symbols_read [] js ≡ Ok v.items) }
+    ensures err { (js : Items) → StandForItems tree.now items.now js
+        → IfErr result (Why (symbols_read [] js)) }
+{
+    let mut seen = Vec::new(alloc);
+    for item in items {
+        match part_name(alloc, tree, Some(*item), &seen) {
+            Ok(name) => {
+                if let Err(_) = seen.push(name) {
+                    return Err(SchemaNo::Want);
+                }
+            }
+            Err(e) => return Err(e),
+        }
+    }
+    Ok(seen)
+}
+
+/// One digit or more, and a number of at most 1,048,576.
+fn digits_size(text: &[u8]) -> Result<u32, SchemaNo>
+    ensures { Gives (digits_size text.now) result }
+{
+    if text.len() == 0 {
+        return Err(SchemaNo::BadType);
+    }
+    let mut size: u32 = 0;
+    for digit in text {
+        if *digit < 48 || 57 < *digit {
+            return Err(SchemaNo::BadType);
+        }
+        size = size * 10 + u32::from(*digit - 48);
+        if size > 1_048_576 {
+            return Err(SchemaNo::BadType);
+        }
+    }
+    Ok(size)
+}
+
+/// The size of a fixed, by the member of this node.
+fn size_of(tree: &Tree, node: Option<u32>) -> Result<u32, SchemaNo>
+    requires { (o : Option Json) × IsMember tree.now o node }
+    ensures { (o : Option Json) → IsMember tree.now o node → Gives (size_of o) result }
+{
+    let Some(at) = node else {
+        return Err(SchemaNo::BadType);
+    };
+    match tree.kind(at) {
+        Kind::Text => digits_size(tree.string_of(at).as_bytes()),
+        Kind::Number => digits_size(tree.text_of(at).as_bytes()),
+        _ => Err(SchemaNo::BadType),
+    }
+}

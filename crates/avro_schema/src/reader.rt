@@ -1,0 +1,366 @@
+ghost use Rattle.std.specs.Prelude.{◌<◌, length, All, Option, IfOk, IfErr, OnOk, codes};
+ghost use Rattle.json_span.specs.Json.{Json, Members, Items, object, array};
+ghost use Rattle.json_span.specs.Nodes.{Stands, StandForItems};
+ghost use Rattle.avro_schema.specs.Reading.{reader, last_member, object_read, object_by_word, record_read, part_type, fields_of, field_read, branch_read, union_read};
+ghost use Rattle.avro_schema.specs.Building.{names_of, IsBuilt, IsMember, Tells, Why, MakesField, MakesFields, MakesBranch, names_of_fields, names_of_branches};
+ghost use Rattle.avro_schema.specs.Forms.{types_of};
+
+use crate::error::SchemaNo;
+use crate::members::{is_object, items_at, member, text_at};
+use crate::named::{define, field_name, is_repeated, read_enum, read_fixed, type_by_name};
+use crate::names::namespace_of;
+use crate::parts::{Field, Form, Parts};
+use json_span::{Kind, Tree};
+use std::alloc::Global;
+
+/// A value as a type. As many levels may open in it.
+#[cycle(reader)]
+pub(crate) fn read_type(
+    alloc: Global,
+    tree: &Tree,
+    canonical: bool,
+    levels: u32,
+    in_union: bool,
+    namespace: &str,
+    node: u32,
+    parts: &mut Parts,
+) -> Result<u32, SchemaNo>
+    requires built { IsBuilt parts.old }
+    requires node { (j : Json) × Stands tree.now node j }
+    ensures { (j : Json) → Stands tree.now node j
+        → Tells (reader canonical levels in_union (names_of parts.old) namespace.now j) parts.old parts.new result }
+{
+    match tree.kind(node) {
+        Kind::Text => type_by_name(alloc, canonical, namespace, tree.string_of(node), parts),
+        Kind::Array => {
+            if in_union {
+                return Err(SchemaNo::BadType);
+            }
+            if levels == 0 {
+                return Err(SchemaNo::TooDeep);
+            }
+            read_union(alloc, tree, canonical, levels - 1, namespace, node, parts)
+        }
+        Kind::Object => {
+            if levels == 0 {
+                return Err(SchemaNo::TooDeep);
+            }
+            read_object(
+                alloc,
+                tree,
+                canonical,
+                levels - 1,
+                in_union,
+                namespace,
+                node,
+                parts,
+            )
+        }
+        _ => Err(SchemaNo::BadType),
+    }
+}
+
+/// An array as a union.
+#[cycle(reader)]
+fn read_union(
+    alloc: Global,
+    tree: &Tree,
+    canonical: bool,
+    levels: u32,
+    namespace: &str,
+    node: u32,
+    parts: &mut Parts,
+) -> Result<u32, SchemaNo>
+    requires built { IsBuilt parts.old }
+    requires node { (js : Items) × Stands tree.now node (array js) }
+    ensures { (js : Items) → Stands tree.now node (array js)
+        → Tells (union_read (reader canonical levels) (names_of parts.old) namespace.now js) parts.old parts.new result }
+{
+    let mut branches = Vec::new(alloc);
+    for item in tree.items(node) {
+        if let Err(e) = read_branch(
+            alloc,
+            tree,
+            canonical,
+            levels,
+            namespace,
+            *item,
+            &mut branches,
+            parts,
+        ) {
+            return Err(e);
+        }
+    }
+    parts.add(Form::Union(branches))
+}
+
+/// One more branch, which isn't of the kind or the fullname of one before it.
+#[cycle(reader)]
+fn read_branch(
+    alloc: Global,
+    tree: &Tree,
+    canonical: bool,
+    levels: u32,
+    namespace: &str,
+    node: u32,
+    branches: &mut Vec<u32>,
+    parts: &mut Parts,
+) -> Result<(), SchemaNo>
+    requires built { IsBuilt parts.old }
+    requires node { (j : Json) × Stands tree.now node j }
+    requires inside { All (λ k. k < length parts.old.nodes.items) branches.old.items }
+    ensures ok { (j : Json) → Stands tree.now node j
+        → OnOk result (MakesBranch (branch_read (reader canonical levels) (names_of parts.old) namespace.now
+        (names_of_branches (types_of parts.old.nodes.items) branches.old.items) j)
+        parts.old parts.new branches.old.items branches.new.items) }
+    ensures err { (j : Json) → Stands tree.now node j
+        → IfErr result (Why (branch_read (reader canonical levels) (names_of parts.old) namespace.now
+        (names_of_branches (types_of parts.old.nodes.items) branches.old.items) j)) }
+{
+    match read_type(alloc, tree, canonical, levels, true, namespace, node, parts) {
+        Ok(branch) => {
+            if is_repeated(parts, branches, branch) {
+                return Err(SchemaNo::BadType);
+            }
+            match branches.push(branch) {
+                Ok(()) => Ok(()),
+                Err(_) => Err(SchemaNo::Want),
+            }
+        }
+        Err(e) => Err(e),
+    }
+}
+
+/// An object as a type.
+#[cycle(reader)]
+fn read_object(
+    alloc: Global,
+    tree: &Tree,
+    canonical: bool,
+    levels: u32,
+    in_union: bool,
+    namespace: &str,
+    node: u32,
+    parts: &mut Parts,
+) -> Result<u32, SchemaNo>
+    requires built { IsBuilt parts.old }
+    requires node { (ms : Members) × Stands tree.now node (object ms) }
+    ensures { (ms : Members) → Stands tree.now node (object ms)
+        → Tells (object_read canonical (reader canonical levels) in_union (names_of parts.old) namespace.now ms
+        (last_member (codes "type") ms)) parts.old parts.new result }
+{
+    let Some(kind) = member(tree, node, "type") else {
+        return Err(SchemaNo::BadType);
+    };
+    match text_at(tree, kind) {
+        Some(word) => read_by_word(alloc, tree, canonical, levels, namespace, node, word, parts),
+        None => read_type(
+            alloc, tree, canonical, levels, in_union, namespace, kind, parts,
+        ),
+    }
+}
+
+/// An object whose `type` is a text.
+#[cycle(reader)]
+fn read_by_word(
+    alloc: Global,
+    tree: &Tree,
+    canonical: bool,
+    levels: u32,
+    namespace: &str,
+    node: u32,
+    word: &str,
+    parts: &mut Parts,
+) -> Result<u32, SchemaNo>
+    requires built { IsBuilt parts.old }
+    requires node { (ms : Members) × Stands tree.now node (object ms) }
+    ensures { (ms : Members) → Stands tree.now node (object ms)
+        → Tells (object_by_word canonical (reader canonical levels) (names_of parts.old) namespace.now ms word.now)
+        parts.old parts.new result }
+{
+    if word == "record" {
+        return read_record(alloc, tree, canonical, levels, namespace, node, parts);
+    }
+    if word == "enum" {
+        return read_enum(alloc, tree, canonical, namespace, node, parts);
+    }
+    if word == "array" {
+        return match read_part(
+            alloc,
+            tree,
+            canonical,
+            levels,
+            namespace,
+            member(tree, node, "items"),
+            parts,
+        ) {
+            Ok(items) => parts.add(Form::Array(items)),
+            Err(e) => Err(e),
+        };
+    }
+    if word == "map" {
+        return match read_part(
+            alloc,
+            tree,
+            canonical,
+            levels,
+            namespace,
+            member(tree, node, "values"),
+            parts,
+        ) {
+            Ok(values) => parts.add(Form::Map(values)),
+            Err(e) => Err(e),
+        };
+    }
+    if word == "fixed" {
+        return read_fixed(alloc, tree, canonical, namespace, node, parts);
+    }
+    type_by_name(alloc, canonical, namespace, word, parts)
+}
+
+/// The type of a member that has to be there.
+#[cycle(reader)]
+fn read_part(
+    alloc: Global,
+    tree: &Tree,
+    canonical: bool,
+    levels: u32,
+    namespace: &str,
+    node: Option<u32>,
+    parts: &mut Parts,
+) -> Result<u32, SchemaNo>
+    requires built { IsBuilt parts.old }
+    requires node { (o : Option Json) × IsMember tree.now o node }
+    ensures { (o : Option Json) → IsMember tree.now o node
+        → Tells (part_type (reader canonical levels) (names_of parts.old) namespace.now o) parts.old parts.new result }
+{
+    match node {
+        Some(at) => read_type(alloc, tree, canonical, levels, false, namespace, at, parts),
+        None => Err(SchemaNo::BadType),
+    }
+}
+
+/// An object as a record. Its name is defined before its fields are read.
+#[cycle(reader)]
+fn read_record(
+    alloc: Global,
+    tree: &Tree,
+    canonical: bool,
+    levels: u32,
+    namespace: &str,
+    node: u32,
+    parts: &mut Parts,
+) -> Result<u32, SchemaNo>
+    requires built { IsBuilt parts.old }
+    requires node { (ms : Members) × Stands tree.now node (object ms) }
+    ensures { (ms : Members) → Stands tree.now node (object ms)
+        → Tells (record_read canonical (reader canonical levels) (names_of parts.old) namespace.now ms)
+        parts.old parts.new result }
+{
+    match define(alloc, tree, canonical, namespace, node, parts) {
+        Ok((name, definition)) => {
+            let within = namespace_of(name.as_str());
+            match read_fields(
+                alloc,
+                tree,
+                canonical,
+                levels,
+                within,
+                member(tree, node, "fields"),
+                parts,
+            ) {
+                Ok(fields) => parts.finish(definition, Form::Record(name, fields)),
+                Err(e) => Err(e),
+            }
+        }
+        Err(e) => Err(e),
+    }
+}
+
+/// The fields of a record.
+#[cycle(reader)]
+fn read_fields(
+    alloc: Global,
+    tree: &Tree,
+    canonical: bool,
+    levels: u32,
+    namespace: &str,
+    node: Option<u32>,
+    parts: &mut Parts,
+) -> Result<Vec<Field>, SchemaNo>
+    requires built { IsBuilt parts.old }
+    requires node { (o : Option Json) × IsMember tree.now o node }
+    ensures ok { (o : Option Json) → IsMember tree.now o node
+        → IfOk result (λ v. MakesFields (fields_of (reader canonical levels) (names_of parts.old) namespace.now o)
+        parts.old parts.new v.items) }
+    ensures err { (o : Option Json) → IsMember tree.now o node
+        → IfErr result (Why (fields_of (reader canonical levels) (names_of parts.old) namespace.now o)) }
+{
+    let Some(at) = node else {
+        return Err(SchemaNo::BadType);
+    };
+    let Some(items) = items_at(tree, at) else {
+        return Err(SchemaNo::BadType);
+    };
+    let mut fields = Vec::new(alloc);
+    for item in items {
+        if let Err(e) = read_field(
+            alloc,
+            tree,
+            canonical,
+            levels,
+            namespace,
+            *item,
+            &mut fields,
+            parts,
+        ) {
+            return Err(e);
+        }
+    }
+    Ok(fields)
+}
+
+/// One more field.
+#[cycle(reader)]
+fn read_field(
+    alloc: Global,
+    tree: &Tree,
+    canonical: bool,
+    levels: u32,
+    namespace: &str,
+    node: u32,
+    fields: &mut Vec<Field>,
+    parts: &mut Parts,
+) -> Result<(), SchemaNo>
+    requires built { IsBuilt parts.old }
+    requires node { (j : Json) × Stands tree.now node j }
+    ensures ok { (j : Json) → Stands tree.now node j
+        → OnOk result (MakesField (field_read (reader canonical levels) (names_of parts.old) namespace.now
+        (names_of_fields fields.old.items) j) parts.old parts.new fields.old.items fields.new.items) }
+    ensures err { (j : Json) → Stands tree.now node j
+        → IfErr result (Why (field_read (reader canonical levels) (names_of parts.old) namespace.now
+        (names_of_fields fields.old.items) j)) }
+{
+    if !is_object(tree, node) {
+        return Err(SchemaNo::BadType);
+    }
+    let name = match field_name(alloc, tree, member(tree, node, "name"), fields) {
+        Ok(name) => name,
+        Err(e) => return Err(e),
+    };
+    match read_part(
+        alloc,
+        tree,
+        canonical,
+        levels,
+        namespace,
+        member(tree, node, "type"),
+        parts,
+    ) {
+        Ok(node) => match fields.push(Field { name, node }) {
+            Ok(()) => Ok(()),
+            Err(_) => Err(SchemaNo::Want),
+        },
+        Err(e) => Err(e),
+    }
+}
