@@ -15,7 +15,7 @@ use Rattle.model.specs.Log.{Topic, shape_of}
 use Rattle.broker_link.specs.Made.{ArePlans}
 use Rattle.broker_link.specs.Metadata.{IsInfo, IsMetadata, NumberedFrom, asked, AreSorted}
 use Rattle.broker_link.specs.Infos.{is_below, insert_info, wanted, Up, Gathered, TakesIn}
-use Rattle.broker_link.specs.Stored.{log_of}
+use Rattle.broker_link.specs.Stored.{log_of, log_with}
 use Rattle.broker_link.specs.declared.link.PartInfo.{PartInfo}
 use Rattle.broker_link.specs.declared.link.TopicInfo.{TopicInfo}
 use Rattle.broker_link.proofs.Puts.{get_or_any}
@@ -190,8 +190,8 @@ asked_all P (Some name) (x ∷ xs) f = go (bytes_eq x.name name) refl (asked_all
     go true e ih = rw e (All-cons P x (filter (λ (t : Topic). bytes_eq t.name name) xs) (f x (0, omega arith, refl) e) ih)
     go false e ih = rw e ih
 
-pub is_metadata : (name : Option (List ℕ)) (topics : List Topic) (infos : List TopicInfo) → Gathered name topics infos → IsMetadata name (log_of topics) infos
-is_metadata name topics infos g = record {
+pub is_metadata : (name : Option (List ℕ)) (topics : List Topic) (others : ℕ) (infos : List TopicInfo) → Gathered name topics infos → IsMetadata name (log_with topics others) infos
+is_metadata name topics others infos g = record {
   sorted = sorted_up infos g.up;
   each = All-weaker (λ (info : TopicInfo). (topic : Topic) × Contains topics topic × (wanted name topic ≡ true) × IsInfo topic info) (λ (info : TopicInfo). (topic : Topic) × Contains (asked name topics) topic × IsInfo topic info)
       (λ info h. (h.0, asked_has name topics h.0 h.1 h.2, h.3)) infos g.each;

@@ -1,5 +1,7 @@
 -- What a link in memory does with one partition's records, and with those of several.
 use Rattle.std.specs.Prelude.{◌≡◌, ℕ, ◌+◌, cond, List, ◌++◌, length, None}
+use Rattle.model.specs.Fixed.{SameCommits}
+use Rattle.model.specs.Produced.{NoneAdded}
 use Rattle.std.specs.List.{AllZip}
 use Rattle.model.specs.Log.{Part, Topic, Log, Keeps, IsLog, rows_in_all}
 use Rattle.model.specs.Entry.{is_zero}
@@ -11,6 +13,21 @@ use Rattle.broker_link.specs.declared.link.PartPlaced.{PartPlaced}
 -- nothing is committed, and there are no others
 abbrev pub log_of : List Topic → Log
 log_of topics = record { topics = topics; committed = λ group at. None; others = 0 }
+
+-- the same with so many rows of others
+abbrev pub log_with : List Topic → ℕ → Log
+log_with topics others = record { topics = topics; committed = λ group at. None; others = others }
+
+-- a partition of these records, each at its place
+abbrev pub part_of : List NewRecord → Part
+part_of records = record { start = 0; end = length records; rows = numbered 0 records }
+
+-- rows of others came, and nothing else
+pub record OthersCame (a b : Log) : Type 0 where
+  pub keeps : Keeps a b
+  pub none : NoneAdded a b
+  pub commits : SameCommits a b
+  pub is_log : IsLog a → IsLog b
 
 -- the partition with these records behind its rows, from its end on
 unfoldable pub appended : Part → List NewRecord → Part

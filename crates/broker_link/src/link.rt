@@ -1,12 +1,14 @@
-ghost use Rattle.std.specs.Prelude.{◌≡◌, ◌≤◌, ◌≢◌, ℕ, Option, option_map, All, IfOk, IfErr, OnErr};
+ghost use Rattle.std.specs.Prelude.{◌≡◌, ◌≤◌, ◌<◌, ◌^◌, ◌≢◌, ℕ, pos, nat_abs, length, Option, option_map, All, IfOk, IfErr, OnErr};
 ghost use Rattle.std.specs.List.{AllZip};
 ghost use Rattle.model.specs.Log.{Log, Keeps, IsLog};
 ghost use Rattle.model.specs.Produced.{NoneAdded};
-ghost use Rattle.model.specs.Fixed.{SameCommits};
+ghost use Rattle.model.specs.Fixed.{HasPart, SameCommits};
 ghost use Rattle.broker_link.specs.Metadata.{IsMetadata};
 ghost use Rattle.broker_link.specs.Produced.{AreParts, IsAsked, IsPlaced, MayBePlaced, IsBased, IsPlainly, first_code};
 ghost use Rattle.broker_link.specs.Causes.{Counts, HasCause, CodeComes};
+ghost use Rattle.broker_link.specs.Fetching.{AreAsks, AreGot, ArePartsOf, HaveAsked, IsCommittedAt, IsEdge, IsFetched, IsToldOffset, edge_view, named_at};
 
+use crate::fetch::{Edge, FetchFrom, Fetched, TopicPart};
 use gate_io::{Items, Text};
 use std::alloc::{AllocError, Global};
 
@@ -117,5 +119,60 @@ pub trait Link {
         ensures plainly { plain self.old → plain self.new × IfErr result (λ e. e ≡ Want) }
         ensures alone { plain self.old → (log self.new).others ≡ (log self.old).others }
         ensures lacked { plain self.old → tells self.old → IfOk result (λ placed. AllZip (IsPlainly (log self.old) topic.now) parts.now placed) }
+        ensures cause { HasCause (counts self.old) (counts self.new) result };
+
+    /// The first rows of these partitions, each from its offset on, in the order asked. All rows
+    /// together have at most so many key and value bytes, but the first row may have more.
+    fn fetch(
+        &mut self,
+        alloc: Global,
+        asks: &[FetchFrom],
+        max_bytes: u32,
+    ) -> Result<Items<Fetched>, LinkNo>
+        requires asks { AreAsks asks.now }
+        requires few { max_bytes < 2 ^ 31 }
+        ensures telling { tells self.old → tells self.new }
+        ensures keeps { tells self.old → Keeps (log self.old) (log self.new) × NoneAdded (log self.old) (log self.new) × SameCommits (log self.old) (log self.new) }
+        ensures is_log { tells self.old → IsLog (log self.old) → IsLog (log self.new) }
+        ensures fetched { IfOk result (λ fetched. AllZip IsFetched asks.now fetched) }
+        ensures got { tells self.old → IfOk result (AreGot (log self.new) asks.now) }
+        ensures plainly { plain self.old → plain self.new × (tells self.old → HaveAsked (log self.old) asks.now → IfErr result (λ e. e ≡ Want)) }
+        ensures alone { plain self.old → (log self.new).others ≡ (log self.old).others }
+        ensures cause { HasCause (counts self.old) (counts self.new) result };
+
+    /// The offset of a partition's first row, or the one behind its last.
+    fn list_offset(
+        &mut self,
+        alloc: Global,
+        topic: &str,
+        partition: i32,
+        edge: Edge,
+    ) -> Result<i64, LinkNo>
+        requires { partition ≡ pos (nat_abs partition) }
+        ensures telling { tells self.old → tells self.new }
+        ensures keeps { tells self.old → Keeps (log self.old) (log self.new) × NoneAdded (log self.old) (log self.new) × SameCommits (log self.old) (log self.new) }
+        ensures is_log { tells self.old → IsLog (log self.old) → IsLog (log self.new) }
+        ensures low { IfOk result (λ offset. offset ≡ pos (nat_abs offset)) }
+        ensures told { tells self.old → IfOk result (IsEdge (log self.new) (named_at topic.now partition) (edge_view edge)) }
+        ensures plainly { plain self.old → plain self.new × (tells self.old → HasPart (log self.old) (named_at topic.now partition) → IfErr result (λ e. e ≡ Want)) }
+        ensures alone { plain self.old → (log self.new).others ≡ (log self.old).others }
+        ensures cause { HasCause (counts self.old) (counts self.new) result };
+
+    /// The offsets that a group has committed at these partitions, in the order asked; -1 is none.
+    fn committed(
+        &mut self,
+        alloc: Global,
+        group: &str,
+        parts: &[TopicPart],
+    ) -> Result<Items<i64>, LinkNo>
+        requires { ArePartsOf parts.now }
+        ensures telling { tells self.old → tells self.new }
+        ensures keeps { tells self.old → Keeps (log self.old) (log self.new) × NoneAdded (log self.old) (log self.new) × SameCommits (log self.old) (log self.new) }
+        ensures is_log { tells self.old → IsLog (log self.old) → IsLog (log self.new) }
+        ensures count { IfOk result (λ offsets. length offsets ≡ length parts.now) }
+        ensures low { IfOk result (All IsToldOffset) }
+        ensures told { tells self.old → IfOk result (AllZip (IsCommittedAt (log self.new) group.now) parts.now) }
+        ensures plainly { plain self.old → plain self.new × IfErr result (λ e. e ≡ Want) }
+        ensures alone { plain self.old → (log self.new).others ≡ (log self.old).others }
         ensures cause { HasCause (counts self.old) (counts self.new) result };
 }

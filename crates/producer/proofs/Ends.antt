@@ -24,7 +24,7 @@ use Rattle.producer.specs.Counted.{are_within, IsCount}
 use Rattle.producer.specs.Grouped.{placed_of}
 use Rattle.producer.specs.Payloads.{number_in, payload_of}
 use Rattle.producer.specs.Plain.{TellsPlainly}
-use Rattle.producer.specs.Replies.{link_reply, IsStored}
+use Rattle.broker_link.specs.Replies.{link_reply, IsStored}
 use Rattle.producer.specs.declared.told.Told.{Told}
 use Rattle.producer.proofs.Counting.{within, outside}
 use Rattle.producer.proofs.Places.{named_chosen}

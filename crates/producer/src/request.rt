@@ -4,7 +4,8 @@ ghost use Rattle.model.specs.Fixed.{SameCommits};
 ghost use Rattle.model.specs.Step.{ProduceEnds};
 ghost use Rattle.broker_link.specs.declared.link.LinkNo.TheVariants.{Want as LinkWant};
 ghost use Rattle.rest_calls.specs.Views.{batch_of, NamesPartition};
-ghost use Rattle.producer.specs.Replies.{IsCounted, IsGood, link_reply, refusal_reply, reply_of};
+ghost use Rattle.broker_link.specs.Replies.{IsCounted, IsGood, link_reply};
+ghost use Rattle.producer.specs.Replies.{refusal_reply, reply_of};
 
 use crate::Told;
 use crate::parts::{are_within, count_parts};

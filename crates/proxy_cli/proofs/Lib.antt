@@ -1,8 +1,7 @@
-pub mod Joining
 pub mod Numbers
+pub mod Plainly
 pub mod Plans
 pub mod Serving
 pub mod Statuses
-pub mod Stepping
 pub mod Topics
 pub mod Wants

@@ -1,4 +1,3 @@
-pub mod Says
 pub mod Served
 pub mod Session
 pub mod Status

@@ -1,16 +1,14 @@
 -- A session: what is written for the bytes of its input.
 use Rattle.std.specs.Prelude.{◌≡◌, ◌⊎◌, ◌<◌, ℕ, ◌+◌, List, [], ◌∷◌, ◌++◌, length, take, true, Option, Some, ⊤}
 use Rattle.std.specs.Io.KnownBytes.{Appends, Consumes}
-use Rattle.model.specs.Log.{Log}
-use Rattle.model.specs.World.{World, nobody}
-use Rattle.broker_link.specs.Made.{empty_log}
+use Rattle.gate_io.specs.Clocks.{Hand}
+use Rattle.broker_link.specs.Made.{empty_log, no_counts}
 use Rattle.rest_codes.specs.Response.{response_of}
 use Rattle.rest_codes.specs.declared.response.Reply.{Reply}
 use Rattle.http_conn.specs.declared.request.Request.{Request}
 use Rattle.http_conn.specs.Stream.{Ending, Stream, StreamSoFar, Begins, IsBad}
 use Rattle.http_conn.specs.Stream.Ending.{BadPlace}
-use Rattle.proxy_cli.specs.Says.{OrWant}
-use Rattle.proxy_cli.specs.Served.{Answering, at_rest, closes, responses}
+use Rattle.proxy_cli.specs.Served.{Answering, OrWant, Station, station, closes, responses}
 use Rattle.proxy_cli.specs.Words.{advertise_of, plans_of, words_of}
 use Rattle.proxy_cli.specs.declared.words.Command.{Command}
 
@@ -20,31 +18,31 @@ IsLast (BadPlace due r) last = (said : Reply) × OrWant r said × (last ≡ resp
 IsLast _ last = last ≡ []
 
 -- a session whose input was read to its end, its limit or its first bad place
-pub record Whole (idle : ℕ) (plain : Type 0) (advertise : List ℕ) (w : World) (a : Log) (input written : List ℕ) (b : Log) (w2 : World) : Type 0 where
+pub record Whole (plain ticks : Type 0) (advertise : List ℕ) (s : Station) (input written : List ℕ) (t : Station) : Type 0 where
   pub requests : List Request
   pub ending : Ending
   pub stream : Stream input requests ending
   pub replies : List Reply
-  pub answers : Answering idle plain advertise w a requests replies b w2
+  pub answers : Answering plain ticks advertise s requests replies t
   pub last : List ℕ
   pub ends : IsLast ending last
   pub output : written ≡ responses 0 requests replies ++ last
 
 -- a session whose read failed: all whole requests of the bytes that it got were answered
-pub record Lost (idle : ℕ) (plain : Type 0) (advertise : List ℕ) (w : World) (a : Log) (got written : List ℕ) (b : Log) (w2 : World) : Type 0 where
+pub record Lost (plain ticks : Type 0) (advertise : List ℕ) (s : Station) (got written : List ℕ) (t : Station) : Type 0 where
   pub requests : List Request
   pub stream : StreamSoFar got requests
   pub replies : List Reply
-  pub answers : Answering idle plain advertise w a requests replies b w2
+  pub answers : Answering plain ticks advertise s requests replies t
   pub output : written ≡ responses 0 requests replies
 
 -- a session that found no memory: the first requests of the input were answered, and nothing else was written
-pub record Starved (idle : ℕ) (plain : Type 0) (advertise : List ℕ) (w : World) (a : Log) (input written : List ℕ) (b : Log) (w2 : World) : Type 0 where
+pub record Starved (plain ticks : Type 0) (advertise : List ℕ) (s : Station) (input written : List ℕ) (t : Station) : Type 0 where
   pub requests : List Request
   pub rest : List ℕ
   pub begins : Begins 0 input requests rest
   pub replies : List Reply
-  pub answers : Answering idle plain advertise w a requests replies b w2
+  pub answers : Answering plain ticks advertise s requests replies t
   pub output : written ≡ responses 0 requests replies
 
 -- the last of the responses, and those before it
@@ -61,12 +59,12 @@ IsCutResponse rest requests replies before last =
     ⊎ ((before ≡ responses 0 requests replies) × ((r : Reply) × IsBad rest r × ((said : Reply) × OrWant r said × (last ≡ response_of said true))))
 
 -- a session whose write failed: n bytes of the last response were written, and its call has had its effect
-pub record CutOff (idle : ℕ) (plain : Type 0) (advertise : List ℕ) (w : World) (a : Log) (input written : List ℕ) (n : ℕ) (b : Log) (w2 : World) : Type 0 where
+pub record CutOff (plain ticks : Type 0) (advertise : List ℕ) (s : Station) (input written : List ℕ) (n : ℕ) (t : Station) : Type 0 where
   pub requests : List Request
   pub rest : List ℕ
   pub begins : Begins 0 input requests rest
   pub replies : List Reply
-  pub answers : Answering idle plain advertise w a requests replies b w2
+  pub answers : Answering plain ticks advertise s requests replies t
   pub before : List ℕ
   pub last : List ℕ
   pub cut : IsCutResponse rest requests replies before last
@@ -74,41 +72,40 @@ pub record CutOff (idle : ℕ) (plain : Type 0) (advertise : List ℕ) (w : Worl
   pub output : written ≡ before ++ take n last
 
 -- What is said of a session whose source tells its input, into a sink that tells what it holds.
-abbrev pub ServesAll : (idle : ℕ) → (plain : Type 0) → (advertise : List ℕ) → World → Log → Option (List ℕ) → Option (List ℕ) → Option (List ℕ) → Log → World → Type 0
-ServesAll idle plain advertise w a left held held2 b w2 =
-    (input : List ℕ) → left ≡ Some input → (written : List ℕ) × Appends held held2 written × Whole idle plain advertise w a input written b w2
+abbrev pub ServesAll : (plain ticks : Type 0) → (advertise : List ℕ) → Station → Option (List ℕ) → Option (List ℕ) → Option (List ℕ) → Station → Type 0
+ServesAll plain ticks advertise s left held held2 t =
+    (input : List ℕ) → left ≡ Some input → (written : List ℕ) × Appends held held2 written × Whole plain ticks advertise s input written t
 
-abbrev pub ServesSome : (idle : ℕ) → (plain : Type 0) → (advertise : List ℕ) → World → Log → Option (List ℕ) → Option (List ℕ) → Option (List ℕ) → Option (List ℕ) → Log → World → Type 0
-ServesSome idle plain advertise w a left left2 held held2 b w2 =
-    (input : List ℕ) → left ≡ Some input → (got : List ℕ) × (written : List ℕ) × Consumes left left2 got × Appends held held2 written × Lost idle plain advertise w a got written b w2
+abbrev pub ServesSome : (plain ticks : Type 0) → (advertise : List ℕ) → Station → Option (List ℕ) → Option (List ℕ) → Option (List ℕ) → Option (List ℕ) → Station → Type 0
+ServesSome plain ticks advertise s left left2 held held2 t =
+    (input : List ℕ) → left ≡ Some input → (got : List ℕ) × (written : List ℕ) × Consumes left left2 got × Appends held held2 written × Lost plain ticks advertise s got written t
 
-abbrev pub ServesFirst : (idle : ℕ) → (plain : Type 0) → (advertise : List ℕ) → World → Log → Option (List ℕ) → Option (List ℕ) → Option (List ℕ) → Log → World → Type 0
-ServesFirst idle plain advertise w a left held held2 b w2 =
-    (input : List ℕ) → left ≡ Some input → (written : List ℕ) × Appends held held2 written × Starved idle plain advertise w a input written b w2
+abbrev pub ServesFirst : (plain ticks : Type 0) → (advertise : List ℕ) → Station → Option (List ℕ) → Option (List ℕ) → Option (List ℕ) → Station → Type 0
+ServesFirst plain ticks advertise s left held held2 t =
+    (input : List ℕ) → left ≡ Some input → (written : List ℕ) × Appends held held2 written × Starved plain ticks advertise s input written t
 
-abbrev pub ServesUntil : (idle : ℕ) → (plain : Type 0) → (advertise : List ℕ) → World → Log → Option (List ℕ) → Option (List ℕ) → Option (List ℕ) → ℕ → Log → World → Type 0
-ServesUntil idle plain advertise w a left held held2 n b w2 =
-    (input : List ℕ) → left ≡ Some input → (written : List ℕ) × Appends held held2 written × CutOff idle plain advertise w a input written n b w2
+abbrev pub ServesUntil : (plain ticks : Type 0) → (advertise : List ℕ) → Station → Option (List ℕ) → Option (List ℕ) → Option (List ℕ) → ℕ → Station → Type 0
+ServesUntil plain ticks advertise s left held held2 n t =
+    (input : List ℕ) → left ≡ Some input → (written : List ℕ) × Appends held held2 written × CutOff plain ticks advertise s input written n t
 
--- how long an instance may be idle, in milliseconds
-abbrev pub idle_ms : ℕ
-idle_ms = 300000
+-- the station at which a session begins: nobody is live, over an empty log of the words' topics
+abbrev pub first_station : Command → Hand → Station
+first_station command hand = station [] 0 (empty_log (plans_of command)) no_counts hand 0
 
--- What is said of the log and the last moment that a session ends with, where the words ask for one.
--- It begins without consumers, over an empty log of the words' topics, and nobody else adds a row.
-abbrev pub IsSession : List (List ℕ) → ((advertise : List ℕ) → Log → Log → World → Type 0) → Type 0
-IsSession words says =
-    (command : Command) × (words_of words ≡ Some command) × (log : Log) × (last : ℕ) × says (advertise_of command) (empty_log (plans_of command)) log (at_rest last)
+-- What is said of the station that a session ends at, where the words ask for one. It ends with the clock as it stands.
+abbrev pub IsSession : List (List ℕ) → Hand → Hand → ((advertise : List ℕ) → Station → Station → Type 0) → Type 0
+IsSession words hand hand2 says =
+    (command : Command) × (words_of words ≡ Some command) × (t : Station) × (t.state.hand ≡ hand2) × says (advertise_of command) (first_station command hand) t
 
 -- the output is that of the whole input, of the bytes that a failing source gave, of first requests, or cut by a failing sink
-abbrev pub SessionServes : List (List ℕ) → Option (List ℕ) → Option (List ℕ) → Option (List ℕ) → Type 0
-SessionServes words left held held2 = IsSession words (λ advertise first log w. ServesAll idle_ms ⊤ advertise nobody first left held held2 log w)
+abbrev pub SessionServes : List (List ℕ) → (ticks : Type 0) → Hand → Hand → Option (List ℕ) → Option (List ℕ) → Option (List ℕ) → Type 0
+SessionServes words ticks hand hand2 left held held2 = IsSession words hand hand2 (λ advertise s t. ServesAll ⊤ ticks advertise s left held held2 t)
 
-abbrev pub SessionLoses : List (List ℕ) → Option (List ℕ) → Option (List ℕ) → Option (List ℕ) → Option (List ℕ) → Type 0
-SessionLoses words left left2 held held2 = IsSession words (λ advertise first log w. ServesSome idle_ms ⊤ advertise nobody first left left2 held held2 log w)
+abbrev pub SessionLoses : List (List ℕ) → (ticks : Type 0) → Hand → Hand → Option (List ℕ) → Option (List ℕ) → Option (List ℕ) → Option (List ℕ) → Type 0
+SessionLoses words ticks hand hand2 left left2 held held2 = IsSession words hand hand2 (λ advertise s t. ServesSome ⊤ ticks advertise s left left2 held held2 t)
 
-abbrev pub SessionStarves : List (List ℕ) → Option (List ℕ) → Option (List ℕ) → Option (List ℕ) → Type 0
-SessionStarves words left held held2 = IsSession words (λ advertise first log w. ServesFirst idle_ms ⊤ advertise nobody first left held held2 log w)
+abbrev pub SessionStarves : List (List ℕ) → (ticks : Type 0) → Hand → Hand → Option (List ℕ) → Option (List ℕ) → Option (List ℕ) → Type 0
+SessionStarves words ticks hand hand2 left held held2 = IsSession words hand hand2 (λ advertise s t. ServesFirst ⊤ ticks advertise s left held held2 t)
 
-abbrev pub SessionCuts : List (List ℕ) → Option (List ℕ) → Option (List ℕ) → Option (List ℕ) → Type 0
-SessionCuts words left held held2 = IsSession words (λ advertise first log w. (n : ℕ) × ServesUntil idle_ms ⊤ advertise nobody first left held held2 n log w)
+abbrev pub SessionCuts : List (List ℕ) → (ticks : Type 0) → Hand → Hand → Option (List ℕ) → Option (List ℕ) → Option (List ℕ) → Type 0
+SessionCuts words ticks hand hand2 left held held2 = IsSession words hand hand2 (λ advertise s t. (n : ℕ) × ServesUntil ⊤ ticks advertise s left held held2 n t)

@@ -1,63 +1,36 @@
-ghost use Rattle.std.specs.Prelude.{ℕ, ◌<◌, ◌^◌, List, All, length};
-ghost use Rattle.model.specs.Entry.Call.{Produce};
+ghost use Rattle.std.specs.Prelude.{◌≡◌, ℕ, List};
+ghost use Rattle.model.specs.Entry.{Entry};
 ghost use Rattle.model.specs.Log.{IsLog};
-ghost use Rattle.rest_calls.specs.Views.{batch_of, NamesPartition};
-ghost use Rattle.proxy_cli.specs.Served.{AnswersOne, IsStep};
+ghost use Rattle.proxy_cli.specs.Served.{AnswersOne, station};
 
-use crate::offsets::reply_to;
 use broker_link::Link;
+use desk::AloneDesk;
 use gate_io::Clock;
 use http_conn::Request;
-use producer::produce;
-use rest_calls::{Batch, Call, call_of};
+use rest_calls::call_of;
 use rest_codes::Reply;
 use std::alloc::Global;
 
-/// Produces the records of a request. Its moment is the clock's reading, or the last moment where
-/// that is greater.
-fn serve_produce<L: Link, C: Clock>(
-    alloc: Global,
-    link: &mut L,
-    last: &mut u64,
-    clock: &mut C,
-    topic: &str,
-    batch: Batch,
-) -> Reply
-    requires some { 0 < length batch.rows }
-    requires few { length batch.rows < 2 ^ 63 }
-    requires named { All NamesPartition batch.rows }
-    ensures stepped { L.tells link.old → IsLog (L.log link.old) → (idle : ℕ) (advertise : List ℕ)
-        → IsStep idle (L.plain link.old) advertise (Produce topic.now (batch_of batch)) last.old (L.log link.old) result (L.log link.new) last.new }
-
-    ensures telling { L.tells link.old → L.tells link.new }
-    ensures is_log { L.tells link.old → IsLog (L.log link.old) → IsLog (L.log link.new) }
-    ensures plainly { L.plain link.old → L.plain link.new }
-{
-    let moment = clock.now_ms().max(*last);
-    *last = moment;
-    let answer = produce(alloc, moment, link, topic, batch);
-    reply_to(alloc, answer)
-}
-
 /// Answers a whole request.
-pub(crate) fn answer<L: Link, C: Clock>(
+pub(crate) fn answer<L: Link + Drop, C: Clock>(
     alloc: Global,
-    link: &mut L,
-    last: &mut u64,
+    desk: &mut AloneDesk<L>,
     clock: &mut C,
     request: &Request,
 ) -> Reply
-    ensures answered { L.tells link.old → IsLog (L.log link.old)
-        → (idle : ℕ) (advertise : List ℕ) → AnswersOne idle (L.plain link.old) advertise request.now last.old (L.log link.old) result (L.log link.new) last.new }
+    ensures answered { L.tells desk.old.shard.link → IsLog (L.log desk.old.shard.link)
+        → (own : List Entry) × AnswersOne (L.plain desk.old.shard.link) (C.tells clock.old) desk.old.shard.advertise request.now
+        (station desk.old.shard.instances.items desk.old.shard.last (L.log desk.old.shard.link) (L.counts desk.old.shard.link) (C.hand clock.old) desk.old.unnamed) result own
+        (station desk.new.shard.instances.items desk.new.shard.last (L.log desk.new.shard.link) (L.counts desk.new.shard.link) (C.hand clock.new) desk.new.unnamed) }
 
-    ensures telling { L.tells link.old → L.tells link.new }
-    ensures is_log { L.tells link.old → IsLog (L.log link.old) → IsLog (L.log link.new) }
-    ensures plainly { L.plain link.old → L.plain link.new }
+    ensures advertise { desk.new.shard.advertise ≡ desk.old.shard.advertise }
+    ensures telling { L.tells desk.old.shard.link → L.tells desk.new.shard.link }
+    ensures is_log { L.tells desk.old.shard.link → IsLog (L.log desk.old.shard.link) → IsLog (L.log desk.new.shard.link) }
+    ensures plainly { L.plain desk.old.shard.link → L.plain desk.new.shard.link }
+    ensures ticking { C.tells clock.old → C.tells clock.new }
 {
     match call_of(alloc, request) {
-        Ok(Call::Produce { topic, batch }) => {
-            serve_produce(alloc, link, last, clock, topic.as_str(), batch)
-        }
+        Ok(call) => desk.answer(alloc, clock, call),
         Err(reply) => reply,
     }
 }

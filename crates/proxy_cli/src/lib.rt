@@ -2,7 +2,8 @@
 #![tactic(auto)]
 
 mod answer;
-mod offsets;
+#[cfg(test)]
+mod consumer_tests;
 mod program;
 mod session;
 #[cfg(test)]
@@ -10,4 +11,5 @@ mod tests;
 mod words;
 
 pub use program::{run, run_session};
+pub use session::serve_stream;
 pub use words::{Command, SessionWords, WordNo, read_words};

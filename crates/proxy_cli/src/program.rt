@@ -3,14 +3,15 @@ ghost use Rattle.gate_io.specs.Counts.{Rose};
 ghost use Rattle.http_conn.specs.declared.request.ConnNo.TheVariants.{WriteFault, ReadFault, Want as WantConn};
 ghost use Rattle.proxy_cli.specs.Session.{SessionServes, SessionLoses, SessionStarves, SessionCuts};
 ghost use Rattle.proxy_cli.specs.Status.{IsStatus, served_status};
-ghost use Rattle.proxy_cli.specs.Words.{plans_of, words_of};
+ghost use Rattle.proxy_cli.specs.Words.{advertise_of, plans_of, words_of};
 
-use crate::session::serve;
+use crate::session::serve_stream;
 use crate::words::{Command, WordNo, read_words};
 use broker_link::MemLink;
+use desk::AloneDesk;
 use gate_io::{Clock, Sink, Source, Text, Want, write_all};
 use http_conn::ConnNo;
-use std::alloc::Global;
+use std::alloc::{AllocError, Global};
 
 fn say<E: Sink>(err: &mut E, text: &[u8]) {
     let _ = write_all(err, text);
@@ -22,6 +23,15 @@ fn topics_in(command: &Command) -> &[(Text, u32)]
 {
     match command {
         Command::Session(session) => session.topics.as_slice(),
+    }
+}
+
+/// The host and port at which clients reach the gateway.
+fn advertise_in(command: &Command) -> &str
+    ensures { result.now ≡ advertise_of command.now }
+{
+    match command {
+        Command::Session(session) => session.advertise.as_str(),
     }
 }
 
@@ -58,12 +68,12 @@ pub fn run_session<S: Source, K: Sink, E: Sink, C: Clock>(
     clock: &mut C,
 ) -> u8
     // Every reply is that of its request in one legal run, each call once and in order.
-    ensures output { result ≡ 0 → SessionServes (map string_bytes words.now) (S.left src.old) (K.held sink.old) (K.held sink.new) }
+    ensures output { result ≡ 0 → SessionServes (map string_bytes words.now) (C.tells clock.old) (C.hand clock.old) (C.hand clock.new) (S.left src.old) (K.held sink.old) (K.held sink.new) }
 
     // What stands where the source, the sink or memory failed.
-    ensures lost { result ≡ 3 → SessionLoses (map string_bytes words.now) (S.left src.old) (S.left src.new) (K.held sink.old) (K.held sink.new) }
-    ensures cut { result ≡ 4 → SessionCuts (map string_bytes words.now) (S.left src.old) (K.held sink.old) (K.held sink.new) }
-    ensures starved { result ≡ 7 → (sink.new ≡ sink.old) ⊎ SessionStarves (map string_bytes words.now) (S.left src.old) (K.held sink.old) (K.held sink.new) }
+    ensures lost { result ≡ 3 → SessionLoses (map string_bytes words.now) (C.tells clock.old) (C.hand clock.old) (C.hand clock.new) (S.left src.old) (S.left src.new) (K.held sink.old) (K.held sink.new) }
+    ensures cut { result ≡ 4 → SessionCuts (map string_bytes words.now) (C.tells clock.old) (C.hand clock.old) (C.hand clock.new) (S.left src.old) (K.held sink.old) (K.held sink.new) }
+    ensures starved { result ≡ 7 → (sink.new ≡ sink.old) ⊎ SessionStarves (map string_bytes words.now) (C.tells clock.old) (C.hand clock.old) (C.hand clock.new) (S.left src.old) (K.held sink.old) (K.held sink.new) }
 
     // Each status but 0 and 7 has its cause, and words that don't read leave all as it was.
     ensures words { result ≡ 2 → words_of (map string_bytes words.now) ≡ None }
@@ -84,15 +94,22 @@ pub fn run_session<S: Source, K: Sink, E: Sink, C: Clock>(
             return 7;
         }
     };
-    let mut link = match MemLink::new(alloc, topics_in(&command)) {
+    let link = match MemLink::new(alloc, topics_in(&command)) {
         Ok(link) => link,
         Err(Want) => {
             say(err, b"out of memory");
             return 7;
         }
     };
-    let mut last = 0;
-    let served = serve(alloc, src, sink, &mut link, &mut last, clock);
+    let advertise = match Text::from_str(alloc, advertise_in(&command)) {
+        Ok(advertise) => advertise,
+        Err(AllocError) => {
+            say(err, b"out of memory");
+            return 7;
+        }
+    };
+    let mut desk = AloneDesk::new(alloc, link, advertise);
+    let served = serve_stream(alloc, src, sink, &mut desk, clock);
     status_of(err, served)
 }
 
@@ -105,11 +122,11 @@ pub fn run<S: Source, K: Sink, E: Sink, C: Clock>(
     err: &mut E,
     clock: &mut C,
 ) -> u8
-    ensures output { result ≡ 0 → SessionServes (map string_bytes words.now) (S.left src.old) (K.held sink.old) (K.held sink.new) }
+    ensures output { result ≡ 0 → SessionServes (map string_bytes words.now) (C.tells clock.old) (C.hand clock.old) (C.hand clock.new) (S.left src.old) (K.held sink.old) (K.held sink.new) }
 
-    ensures lost { result ≡ 3 → SessionLoses (map string_bytes words.now) (S.left src.old) (S.left src.new) (K.held sink.old) (K.held sink.new) }
-    ensures cut { result ≡ 4 → SessionCuts (map string_bytes words.now) (S.left src.old) (K.held sink.old) (K.held sink.new) }
-    ensures starved { result ≡ 7 → (sink.new ≡ sink.old) ⊎ SessionStarves (map string_bytes words.now) (S.left src.old) (K.held sink.old) (K.held sink.new) }
+    ensures lost { result ≡ 3 → SessionLoses (map string_bytes words.now) (C.tells clock.old) (C.hand clock.old) (C.hand clock.new) (S.left src.old) (S.left src.new) (K.held sink.old) (K.held sink.new) }
+    ensures cut { result ≡ 4 → SessionCuts (map string_bytes words.now) (C.tells clock.old) (C.hand clock.old) (C.hand clock.new) (S.left src.old) (K.held sink.old) (K.held sink.new) }
+    ensures starved { result ≡ 7 → (sink.new ≡ sink.old) ⊎ SessionStarves (map string_bytes words.now) (C.tells clock.old) (C.hand clock.old) (C.hand clock.new) (S.left src.old) (K.held sink.old) (K.held sink.new) }
 
     ensures words { result ≡ 2 → words_of (map string_bytes words.now) ≡ None }
     ensures unread { words_of (map string_bytes words.now) ≡ None → (result ≡ 2) ⊎ (result ≡ 7) }

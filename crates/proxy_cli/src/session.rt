@@ -8,13 +8,14 @@ ghost use Rattle.rest_codes.specs.declared.response.Reply.TheVariants.{Want as W
 ghost use Rattle.http_conn.specs.declared.request.ConnNo.TheVariants.{WriteFault, ReadFault, Want as WantConn};
 ghost use Rattle.http_conn.specs.Told.{Comes};
 ghost use Rattle.http_conn.specs.Next.{IsWaiting};
-ghost use Rattle.proxy_cli.specs.Says.{OrWant};
-ghost use Rattle.proxy_cli.specs.Served.{AnswersOne, at_rest};
+ghost use Rattle.model.specs.Entry.{Entry};
+ghost use Rattle.proxy_cli.specs.Served.{AnswersOne, OrWant, station};
 ghost use Rattle.proxy_cli.specs.Session.{ServesAll, ServesSome, ServesFirst, ServesUntil};
 ghost use Rattle.proxy_cli.specs.Turn.{ServesOne, EndsHere, CutAt, CutsReply, CutsRefusal};
 
 use crate::answer::answer;
 use broker_link::Link;
+use desk::AloneDesk;
 use gate_io::{Clock, Sink, Source, Want};
 use http_conn::{ConnNo, Connection, Next, Request};
 use rest_codes::{Reply, response_bytes, want_response};
@@ -52,32 +53,37 @@ fn send<K: Sink>(
 }
 
 /// Answers a request and sends its response.
-fn exchange<K: Sink, L: Link, C: Clock>(
+fn exchange<K: Sink, L: Link + Drop, C: Clock>(
     alloc: Global,
     connection: &mut Connection,
     sink: &mut K,
-    link: &mut L,
-    last: &mut u64,
+    desk: &mut AloneDesk<L>,
     clock: &mut C,
     request: &Request,
     close: bool,
 ) -> Result<(), ConnNo>
     ensures same { connection.new ≡ connection.old }
-    ensures answered { OnOk result (L.tells link.old → IsLog (L.log link.old) → (idle : ℕ) (advertise : List ℕ)
-        → (reply : AReply) × AnswersOne idle (L.plain link.old) advertise request.now last.old (L.log link.old) reply (L.log link.new) last.new
+    ensures answered { OnOk result (L.tells desk.old.shard.link → IsLog (L.log desk.old.shard.link)
+        → (reply : AReply) × (own : List Entry) × AnswersOne (L.plain desk.old.shard.link) (C.tells clock.old) desk.old.shard.advertise request.now
+        (station desk.old.shard.instances.items desk.old.shard.last (L.log desk.old.shard.link) (L.counts desk.old.shard.link) (C.hand clock.old) desk.old.unnamed) reply own
+        (station desk.new.shard.instances.items desk.new.shard.last (L.log desk.new.shard.link) (L.counts desk.new.shard.link) (C.hand clock.new) desk.new.unnamed)
         × Appends (K.held sink.old) (K.held sink.new) (response_of reply close)) }
-    ensures cut { (n : ℕ) → result ≡ Err (WriteFault n) → L.tells link.old → IsLog (L.log link.old) → (idle : ℕ) (advertise : List ℕ)
-        → (reply : AReply) × AnswersOne idle (L.plain link.old) advertise request.now last.old (L.log link.old) reply (L.log link.new) last.new
+    ensures cut { (n : ℕ) → result ≡ Err (WriteFault n) → L.tells desk.old.shard.link → IsLog (L.log desk.old.shard.link)
+        → (reply : AReply) × (own : List Entry) × AnswersOne (L.plain desk.old.shard.link) (C.tells clock.old) desk.old.shard.advertise request.now
+        (station desk.old.shard.instances.items desk.old.shard.last (L.log desk.old.shard.link) (L.counts desk.old.shard.link) (C.hand clock.old) desk.old.unnamed) reply own
+        (station desk.new.shard.instances.items desk.new.shard.last (L.log desk.new.shard.link) (L.counts desk.new.shard.link) (C.hand clock.new) desk.new.unnamed)
         × CutAt n (response_of reply close) (K.held sink.old) (K.held sink.new) }
     ensures only { OnErr result ((n : ℕ) × (result ≡ Err (WriteFault n))) }
     ensures cause { OnErr result (Rose (K.faults sink.old) (K.faults sink.new) ⊎ Rose (K.stalls sink.old) (K.stalls sink.new)) }
     ensures counts { (K.faults sink.old ≤ K.faults sink.new) × (K.stalls sink.old ≤ K.stalls sink.new) }
 
-    ensures telling { L.tells link.old → L.tells link.new }
-    ensures is_log { L.tells link.old → IsLog (L.log link.old) → IsLog (L.log link.new) }
-    ensures plainly { L.plain link.old → L.plain link.new }
+    ensures advertise { desk.new.shard.advertise ≡ desk.old.shard.advertise }
+    ensures telling { L.tells desk.old.shard.link → L.tells desk.new.shard.link }
+    ensures is_log { L.tells desk.old.shard.link → IsLog (L.log desk.old.shard.link) → IsLog (L.log desk.new.shard.link) }
+    ensures plainly { L.plain desk.old.shard.link → L.plain desk.new.shard.link }
+    ensures ticking { C.tells clock.old → C.tells clock.new }
 {
-    let reply = answer(alloc, link, last, clock, request);
+    let reply = answer(alloc, desk, clock, request);
     match send(alloc, connection, sink, &reply, close) {
         Ok(_) => Ok(()),
         Err(e) => Err(e),
@@ -111,41 +117,48 @@ fn closes(request: &Request, is_last: bool) -> bool
 }
 
 /// Serves one request. False where there is no further one.
-fn serve_one<S: Source, K: Sink, L: Link, C: Clock>(
+fn serve_one<S: Source, K: Sink, L: Link + Drop, C: Clock>(
     alloc: Global,
     connection: &mut Connection,
     source: &mut S,
     sink: &mut K,
-    link: &mut L,
-    last: &mut u64,
+    desk: &mut AloneDesk<L>,
     clock: &mut C,
     close: bool,
 ) -> Result<bool, ConnNo>
     requires { connection.old.over ≡ false }
     ensures going { result ≡ Ok true → connection.new.over ≡ false }
-    ensures served { result ≡ Ok true → L.tells link.old → IsLog (L.log link.old) → (idle : ℕ) (advertise all : List ℕ) → Comes connection.old.held (S.left source.old) all
-        → ServesOne idle (L.plain link.old) advertise all connection.new.held (S.left source.new) last.old (L.log link.old) (L.log link.new) last.new (K.held sink.old) (K.held sink.new) close }
-    ensures ended { result ≡ Ok false → (link.new ≡ link.old) × (last.new ≡ last.old) × ((all : List ℕ) → Comes connection.old.held (S.left source.old) all → EndsHere all (K.held sink.old) (K.held sink.new)) }
-    ensures cut { (n : ℕ) → result ≡ Err (WriteFault n) → L.tells link.old → IsLog (L.log link.old) → (idle : ℕ) (advertise all : List ℕ) → Comes connection.old.held (S.left source.old) all
-        → CutsReply idle (L.plain link.old) advertise n all last.old (L.log link.old) (L.log link.new) last.new (K.held sink.old) (K.held sink.new) close
-        ⊎ CutsRefusal n all last.old (L.log link.old) (L.log link.new) last.new (K.held sink.old) (K.held sink.new) }
-    ensures lost { result ≡ Err ReadFault → (link.new ≡ link.old) × (last.new ≡ last.old) × (sink.new ≡ sink.old)
+    ensures served { result ≡ Ok true → L.tells desk.old.shard.link → IsLog (L.log desk.old.shard.link) → (all : List ℕ) → Comes connection.old.held (S.left source.old) all
+        → ServesOne (L.plain desk.old.shard.link) (C.tells clock.old) desk.old.shard.advertise all connection.new.held (S.left source.new)
+        (station desk.old.shard.instances.items desk.old.shard.last (L.log desk.old.shard.link) (L.counts desk.old.shard.link) (C.hand clock.old) desk.old.unnamed)
+        (station desk.new.shard.instances.items desk.new.shard.last (L.log desk.new.shard.link) (L.counts desk.new.shard.link) (C.hand clock.new) desk.new.unnamed) (K.held sink.old) (K.held sink.new) close }
+    ensures ended { result ≡ Ok false → (desk.new ≡ desk.old) × (clock.new ≡ clock.old) × ((all : List ℕ) → Comes connection.old.held (S.left source.old) all → EndsHere all (K.held sink.old) (K.held sink.new)) }
+    ensures cut { (n : ℕ) → result ≡ Err (WriteFault n) → L.tells desk.old.shard.link → IsLog (L.log desk.old.shard.link) → (all : List ℕ) → Comes connection.old.held (S.left source.old) all
+        → CutsReply (L.plain desk.old.shard.link) (C.tells clock.old) desk.old.shard.advertise n all
+        (station desk.old.shard.instances.items desk.old.shard.last (L.log desk.old.shard.link) (L.counts desk.old.shard.link) (C.hand clock.old) desk.old.unnamed)
+        (station desk.new.shard.instances.items desk.new.shard.last (L.log desk.new.shard.link) (L.counts desk.new.shard.link) (C.hand clock.new) desk.new.unnamed) (K.held sink.old) (K.held sink.new) close
+        ⊎ CutsRefusal n all
+        (station desk.old.shard.instances.items desk.old.shard.last (L.log desk.old.shard.link) (L.counts desk.old.shard.link) (C.hand clock.old) desk.old.unnamed)
+        (station desk.new.shard.instances.items desk.new.shard.last (L.log desk.new.shard.link) (L.counts desk.new.shard.link) (C.hand clock.new) desk.new.unnamed) (K.held sink.old) (K.held sink.new) }
+    ensures lost { result ≡ Err ReadFault → (desk.new ≡ desk.old) × (clock.new ≡ clock.old) × (sink.new ≡ sink.old)
         × ((all : List ℕ) → Comes connection.old.held (S.left source.old) all → Comes connection.new.held (S.left source.new) all × IsWaiting connection.new.held) }
-    ensures starved { result ≡ Err WantConn → (link.new ≡ link.old) × (last.new ≡ last.old) × (sink.new ≡ sink.old) }
+    ensures starved { result ≡ Err WantConn → (desk.new ≡ desk.old) × (clock.new ≡ clock.old) × (sink.new ≡ sink.old) }
 
     ensures read { result ≡ Err ReadFault → Rose (S.faults source.old) (S.faults source.new) }
     ensures write { (n : ℕ) → result ≡ Err (WriteFault n) → Rose (K.faults sink.old) (K.faults sink.new) ⊎ Rose (K.stalls sink.old) (K.stalls sink.new) }
     ensures reads { S.faults source.old ≤ S.faults source.new }
     ensures writes { (K.faults sink.old ≤ K.faults sink.new) × (K.stalls sink.old ≤ K.stalls sink.new) }
 
-    ensures telling { L.tells link.old → L.tells link.new }
-    ensures is_log { L.tells link.old → IsLog (L.log link.old) → IsLog (L.log link.new) }
-    ensures plainly { L.plain link.old → L.plain link.new }
+    ensures advertise { desk.new.shard.advertise ≡ desk.old.shard.advertise }
+    ensures telling { L.tells desk.old.shard.link → L.tells desk.new.shard.link }
+    ensures is_log { L.tells desk.old.shard.link → IsLog (L.log desk.old.shard.link) → IsLog (L.log desk.new.shard.link) }
+    ensures plainly { L.plain desk.old.shard.link → L.plain desk.new.shard.link }
+    ensures ticking { C.tells clock.old → C.tells clock.new }
 {
     match connection.next(alloc, source) {
         Ok(Next::Ready(request)) => {
             let close = closes(&request, close);
-            match exchange(alloc, connection, sink, link, last, clock, &request, close) {
+            match exchange(alloc, connection, sink, desk, clock, &request, close) {
                 Ok(()) => Ok(true),
                 Err(e) => Err(e),
             }
@@ -161,23 +174,31 @@ fn serve_one<S: Source, K: Sink, L: Link, C: Clock>(
     }
 }
 
-/// Serves the requests of a source in turn.
-pub(crate) fn serve<S: Source, K: Sink, L: Link, C: Clock>(
+/// Serves the requests of a source in turn, and writes their responses. A failed read or write and
+/// want of memory end it; what was answered until then has had its effect.
+pub fn serve_stream<S: Source, K: Sink, L: Link + Drop, C: Clock>(
     alloc: Global,
     source: &mut S,
     sink: &mut K,
-    link: &mut L,
-    last: &mut u64,
+    desk: &mut AloneDesk<L>,
     clock: &mut C,
 ) -> Result<(), ConnNo>
-    ensures output { OnOk result (L.tells link.old → IsLog (L.log link.old) → (idle : ℕ) (advertise : List ℕ)
-        → ServesAll idle (L.plain link.old) advertise (at_rest last.old) (L.log link.old) (S.left source.old) (K.held sink.old) (K.held sink.new) (L.log link.new) (at_rest last.new)) }
-    ensures lost { result ≡ Err ReadFault → L.tells link.old → IsLog (L.log link.old) → (idle : ℕ) (advertise : List ℕ)
-        → ServesSome idle (L.plain link.old) advertise (at_rest last.old) (L.log link.old) (S.left source.old) (S.left source.new) (K.held sink.old) (K.held sink.new) (L.log link.new) (at_rest last.new) }
-    ensures cut { (n : ℕ) → result ≡ Err (WriteFault n) → L.tells link.old → IsLog (L.log link.old) → (idle : ℕ) (advertise : List ℕ)
-        → ServesUntil idle (L.plain link.old) advertise (at_rest last.old) (L.log link.old) (S.left source.old) (K.held sink.old) (K.held sink.new) n (L.log link.new) (at_rest last.new) }
-    ensures starved { result ≡ Err WantConn → L.tells link.old → IsLog (L.log link.old) → (idle : ℕ) (advertise : List ℕ)
-        → ServesFirst idle (L.plain link.old) advertise (at_rest last.old) (L.log link.old) (S.left source.old) (K.held sink.old) (K.held sink.new) (L.log link.new) (at_rest last.new) }
+    ensures output { OnOk result (L.tells desk.old.shard.link → IsLog (L.log desk.old.shard.link)
+        → ServesAll (L.plain desk.old.shard.link) (C.tells clock.old) desk.old.shard.advertise
+        (station desk.old.shard.instances.items desk.old.shard.last (L.log desk.old.shard.link) (L.counts desk.old.shard.link) (C.hand clock.old) desk.old.unnamed) (S.left source.old) (K.held sink.old) (K.held sink.new)
+        (station desk.new.shard.instances.items desk.new.shard.last (L.log desk.new.shard.link) (L.counts desk.new.shard.link) (C.hand clock.new) desk.new.unnamed)) }
+    ensures lost { result ≡ Err ReadFault → L.tells desk.old.shard.link → IsLog (L.log desk.old.shard.link)
+        → ServesSome (L.plain desk.old.shard.link) (C.tells clock.old) desk.old.shard.advertise
+        (station desk.old.shard.instances.items desk.old.shard.last (L.log desk.old.shard.link) (L.counts desk.old.shard.link) (C.hand clock.old) desk.old.unnamed) (S.left source.old) (S.left source.new) (K.held sink.old) (K.held sink.new)
+        (station desk.new.shard.instances.items desk.new.shard.last (L.log desk.new.shard.link) (L.counts desk.new.shard.link) (C.hand clock.new) desk.new.unnamed) }
+    ensures cut { (n : ℕ) → result ≡ Err (WriteFault n) → L.tells desk.old.shard.link → IsLog (L.log desk.old.shard.link)
+        → ServesUntil (L.plain desk.old.shard.link) (C.tells clock.old) desk.old.shard.advertise
+        (station desk.old.shard.instances.items desk.old.shard.last (L.log desk.old.shard.link) (L.counts desk.old.shard.link) (C.hand clock.old) desk.old.unnamed) (S.left source.old) (K.held sink.old) (K.held sink.new) n
+        (station desk.new.shard.instances.items desk.new.shard.last (L.log desk.new.shard.link) (L.counts desk.new.shard.link) (C.hand clock.new) desk.new.unnamed) }
+    ensures starved { result ≡ Err WantConn → L.tells desk.old.shard.link → IsLog (L.log desk.old.shard.link)
+        → ServesFirst (L.plain desk.old.shard.link) (C.tells clock.old) desk.old.shard.advertise
+        (station desk.old.shard.instances.items desk.old.shard.last (L.log desk.old.shard.link) (L.counts desk.old.shard.link) (C.hand clock.old) desk.old.unnamed) (S.left source.old) (K.held sink.old) (K.held sink.new)
+        (station desk.new.shard.instances.items desk.new.shard.last (L.log desk.new.shard.link) (L.counts desk.new.shard.link) (C.hand clock.new) desk.new.unnamed) }
 
     ensures read { result ≡ Err ReadFault → Rose (S.faults source.old) (S.faults source.new) }
     ensures write { (n : ℕ) → result ≡ Err (WriteFault n) → Rose (K.faults sink.old) (K.faults sink.new) ⊎ Rose (K.stalls sink.old) (K.stalls sink.new) }
@@ -188,16 +209,7 @@ pub(crate) fn serve<S: Source, K: Sink, L: Link, C: Clock>(
     };
     for count in 0..MAX_REQUESTS {
         let close = count + 1 == MAX_REQUESTS;
-        match serve_one(
-            alloc,
-            &mut connection,
-            source,
-            sink,
-            link,
-            last,
-            clock,
-            close,
-        ) {
+        match serve_one(alloc, &mut connection, source, sink, desk, clock, close) {
             Ok(true) => {}
             Ok(false) => return Ok(()),
             Err(e) => return Err(e),

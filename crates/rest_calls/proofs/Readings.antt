@@ -1,29 +1,46 @@
 -- From two readings of one request to their equality.
-use Rattle.std.proofs.Common.{◌≡◌, ◌∙◌, sym, ap, inl, inr, Some, None}
+use Rattle.std.proofs.Common.{◌≡◌, ◌∙◌, ℕ, List, [], ◌∷◌, sym, ap, refl, Option, Some, None, Result}
+use Rattle.serde_json.specs.Data.{Data}
+use Rattle.model.specs.Log.{TopicPart}
+use Rattle.model.specs.World.{Settings}
+use Rattle.model.specs.Entry.{Given}
 use Rattle.http_conn.specs.declared.request.Request.{Request}
-use Rattle.model.specs.Entry.{Call}
-use Rattle.rest_calls.specs.Reading.{Read, Calls, Refuses, Reading, IsProduce, IsUnreadable}
+use Rattle.rest_calls.specs.Json.{IsJson}
+use Rattle.rest_calls.specs.Body.{produced_by}
+use Rattle.rest_calls.specs.Create.{created_by}
+use Rattle.rest_calls.specs.Assign.{assigned_by}
+use Rattle.rest_calls.specs.Place.{Place, Topic, Group, Instance, place_of}
+use Rattle.rest_calls.specs.declared.place.Ask.TheVariants.{Delete, Assign, Assignments, Records}
+use Rattle.rest_calls.specs.Reading.{Read, Reading, ReadingAt, ReadingIn, ProducedAs, CreatedAs, AssignedAs, produce_read, create_read, assign_read}
 
-same_call : (request : Request) (a b : Call) → IsProduce request a → IsProduce request b → a ≡ b
-same_call request a b x y =
-    let topics : Some x.topic ≡ Some y.topic = sym x.named ∙ y.named in
-    let records : Some x.records ≡ Some y.records = sym x.body.1 ∙ y.body.1 in
-    let is = x.is in
-    let was = y.is in
-    cc
+-- a body is one value of JSON, or none
+pub one_value : (body : List ℕ) (x y : Option Data) → IsJson body x → IsJson body y → x ≡ y
+one_value body (Some x) (Some y) is was = sym is.1 ∙ was.1
+one_value body (Some x) None is was = let differs : Some x ≡ None = sym is.1 ∙ was is.0 in cc
+one_value body None (Some y) is was = let differs : None ≡ Some y = sym (is was.0) ∙ was.1 in cc
+one_value body None None is was = refl
 
-unreadable_is_no_call : (request : Request) (call : Call) → IsProduce request call → IsUnreadable request → ⊥
-unreadable_is_no_call request call x y =
-    let differs : Some x.records ≡ None = sym x.body.1 ∙ y.body x.body.0 in
-    cc
+one_produced : (body : List ℕ) (x y : Option (List Given)) → ProducedAs body x → ProducedAs body y → x ≡ y
+one_produced body x y is was = is.2 ∙ ap produced_by (one_value body is.0 was.0 is.1 was.1) ∙ sym was.2
+
+one_assigned : (body : List ℕ) (x y : Option (List TopicPart)) → AssignedAs body x → AssignedAs body y → x ≡ y
+one_assigned body x y is was = is.2 ∙ ap assigned_by (one_value body is.0 was.0 is.1 was.1) ∙ sym was.2
+
+one_created : (body : List ℕ) (x y : Result (List ℕ × Settings) ℕ) → CreatedAs body x → CreatedAs body y → x ≡ y
+one_created [] x y is was = is ∙ sym was
+one_created (b ∷ bs) x y is was = is.2 ∙ ap created_by (one_value (b ∷ bs) is.0 was.0 is.1 was.1) ∙ sym was.2
+
+one_at : (place : Place) (request : Request) (a b : Read) → ReadingAt place request a → ReadingAt place request b → a ≡ b
+one_at (Topic topic) request a b x y = x.2 ∙ ap (produce_read topic) (one_produced request.body x.0 y.0 x.1 y.1) ∙ sym y.2
+one_at (Group group) request a b x y = x.2 ∙ ap (create_read group) (one_created request.body x.0 y.0 x.1 y.1) ∙ sym y.2
+one_at (Instance key Delete) request a b x y = x ∙ sym y
+one_at (Instance key Assign) request a b x y = x.2 ∙ ap (assign_read key) (one_assigned request.body x.0 y.0 x.1 y.1) ∙ sym y.2
+one_at (Instance key Assignments) request a b x y = x ∙ sym y
+one_at (Instance key Records) request a b x y = x ∙ sym y
+
+one_in : (place : Option Place) (request : Request) (a b : Read) → ReadingIn place request a → ReadingIn place request b → a ≡ b
+one_in None request a b x y = x ∙ sym y
+one_in (Some place) request a b x y = one_at place request a b x y
 
 pub one_reading : (request : Request) (a b : Read) → Reading request a → Reading request b → a ≡ b
-one_reading request (Calls a) (Calls b) x y = ap Calls (same_call request a b x y)
-one_reading request (Calls a) (Refuses n) x (inl other) = let differs : Some x.topic ≡ None = sym x.named ∙ other.1 in cc
-one_reading request (Calls a) (Refuses n) x (inr unread) = absurd (unreadable_is_no_call request a x unread.1)
-one_reading request (Refuses m) (Calls b) (inl other) y = let differs : Some y.topic ≡ None = sym y.named ∙ other.1 in cc
-one_reading request (Refuses m) (Calls b) (inr unread) y = absurd (unreadable_is_no_call request b y unread.1)
-one_reading request (Refuses m) (Refuses n) (inl x) (inl y) = ap Refuses (x.0 ∙ sym y.0)
-one_reading request (Refuses m) (Refuses n) (inl x) (inr y) = let differs : Some y.1.topic ≡ None = sym y.1.named ∙ x.1 in cc
-one_reading request (Refuses m) (Refuses n) (inr x) (inl y) = let differs : Some x.1.topic ≡ None = sym x.1.named ∙ y.1 in cc
-one_reading request (Refuses m) (Refuses n) (inr x) (inr y) = ap Refuses (x.0 ∙ sym y.0)
+one_reading request a b x y = one_in (place_of request) request a b x y

@@ -1,9 +1,9 @@
 -- The records of a produce body in the binary form (Confluent REST Proxy API v2; RFC 8259; RFC 4648, section 4).
-use Rattle.std.specs.Prelude.{◌≡◌, ℕ, ◌^◌, List, [], ◌∷◌, Option, Some, None, option_map, option_and_then, if◌then◌else◌, is_some, nat_lt, codes, IsUtf8}
+use Rattle.std.specs.Prelude.{ℕ, ◌^◌, List, Option, Some, None, option_map, option_and_then, if◌then◌else◌, is_some, nat_lt, codes}
 use Rattle.std.specs.Result.{result_ok}
 use Rattle.serde_json.specs.Data.{Data, Items, no_items, item}
-use Rattle.serde_json.specs.Read.{read}
 use Rattle.serde_json.specs.Find.{get, as_number, as_u64, as_array, as_null, as_str}
+use Rattle.rest_calls.specs.Json.{all_of}
 use Rattle.base64.specs.GeneralPurpose.{decode_of}
 use Rattle.base64.specs.Engines.{standard}
 use Rattle.model.specs.Entry.{Given}
@@ -32,15 +32,9 @@ given_from _ _ _ = None
 unfoldable pub record_of : Data → Option Given
 record_of d = given_from (partition_of d) (payload_of (get (codes "key") d)) (payload_of (get (codes "value") d))
 
--- a list, where its first record and the others read
-abbrev pub put_first : Option Given → Option (List Given) → Option (List Given)
-put_first (Some given) (Some more) = Some (given ∷ more)
-put_first _ _ = None
-
 -- all records, in order
 abbrev pub records_of : Items → Option (List Given)
-records_of no_items = Some []
-records_of (item d ds) = put_first (record_of d) (records_of ds)
+records_of records = all_of record_of records
 
 -- one record or more
 abbrev pub some_records_of : Items → Option (List Given)
@@ -51,7 +45,6 @@ some_records_of (item d ds) = records_of (item d ds)
 unfoldable pub body_of : Data → Option (List Given)
 body_of d = option_and_then some_records_of (option_and_then as_array (get (codes "records") d))
 
--- a body is a text of JSON with these records, or isn't
-abbrev pub ReadsBody : List ℕ → Option (List Given) → Type 0
-ReadsBody body (Some records) = IsUtf8 body × (option_and_then body_of (read body) ≡ Some records)
-ReadsBody body None = IsUtf8 body → option_and_then body_of (read body) ≡ None
+-- the records of a body that is JSON, or isn't
+abbrev pub produced_by : Option Data → Option (List Given)
+produced_by value = option_and_then body_of value

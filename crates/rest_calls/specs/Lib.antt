@@ -1,5 +1,12 @@
 pub mod Views
 pub mod Path
+pub mod Place
+pub mod Query
+pub mod Json
 pub mod Body
+pub mod Create
+pub mod Assign
+pub mod Keys
 pub mod Reading
 pub mod Reads
+pub mod Responses

@@ -1,42 +1,88 @@
--- What a request asks for: a produce of binary records, or why it is refused (Confluent REST Proxy API v2).
-use Rattle.std.specs.Prelude.{◌≡◌, ℕ, ◌⊎◌, List, Some, None}
+-- What a request asks for, or why it is refused: a produce of binary records, and the calls of one consumer (Confluent REST Proxy API v2).
+use Rattle.std.specs.Prelude.{◌≡◌, ℕ, ◌⊎◌, List, [], ◌∷◌, Option, Some, None, Result, Ok, Err}
+use Rattle.serde_json.specs.Data.{Data}
+use Rattle.model.specs.Log.{TopicPart}
+use Rattle.model.specs.World.{Key, Settings}
 use Rattle.model.specs.Entry.{Call, Given}
-use Rattle.model.specs.Entry.Call.{Produce}
+use Rattle.model.specs.Entry.Call.{Produce, Of}
+use Rattle.model.specs.Entry.Act.{Create as Creates, Delete as Deletes, Assign as Assigns, Assignments as AsksAssignments, Records as AsksRecords}
 use Rattle.http_conn.specs.declared.request.Request.{Request}
 use Rattle.rest_codes.specs.declared.response.Reply.{Reply}
 use Rattle.rest_codes.specs.declared.response.Reply.TheVariants.{Want}
 use Rattle.rest_codes.specs.Errors.{refusal_of}
-use Rattle.rest_calls.specs.Path.{topic_of}
-use Rattle.rest_calls.specs.Body.{ReadsBody}
+use Rattle.rest_calls.specs.Views.{key_in}
+use Rattle.rest_calls.specs.Place.{Place, Topic, Group, Instance, place_of}
+use Rattle.rest_calls.specs.Json.{IsJson}
+use Rattle.rest_calls.specs.Body.{produced_by}
+use Rattle.rest_calls.specs.Create.{created_by, usual_settings}
+use Rattle.rest_calls.specs.Assign.{assigned_by}
+use Rattle.rest_calls.specs.Query.{limits_of}
+use Rattle.rest_calls.specs.declared.query.Limits.{Limits}
+use Rattle.rest_calls.specs.declared.place.Ask.TheVariants.{Delete, Assign, Assignments, Records}
 
 -- what a request reads as: a call, or a refusal with a code
 pub data Read : Type 0 where
   Calls : Call → Read
   Refuses : ℕ → Read
 
+-- ---- what bodies read as
+
+-- the body has these records, or doesn't read
+abbrev pub ProducedAs : List ℕ → Option (List Given) → Type 0
+ProducedAs body records = (value : Option Data) × IsJson body value × (records ≡ produced_by value)
+
+-- the body lists these parts, or doesn't read
+abbrev pub AssignedAs : List ℕ → Option (List TopicPart) → Type 0
+AssignedAs body parts = (value : Option Data) × IsJson body value × (parts ≡ assigned_by value)
+
+-- The body gives this name and these settings, or is refused with this code. No body gives no name and the usual settings.
+abbrev pub CreatedAs : List ℕ → Result (List ℕ × Settings) ℕ → Type 0
+CreatedAs [] made = made ≡ Ok ([], usual_settings)
+CreatedAs (b ∷ bs) made = (value : Option Data) × IsJson (b ∷ bs) value × (made ≡ created_by value)
+
+-- ---- what requests read as
+
 -- a produce of records without schemas
 abbrev pub produce_of : List ℕ → List Given → Call
 produce_of topic records = Produce topic (record { key_id = None; value_id = None; records = records })
 
--- the request asks for this produce
-pub record IsProduce (request : Request) (call : Call) : Type 0 where
-  pub topic : List ℕ
-  pub records : List Given
-  pub is : call ≡ produce_of topic records
-  pub named : topic_of request ≡ Some topic
-  pub body : ReadsBody request.body (Some records)
+-- a produce of the records, if they read
+abbrev pub produce_read : List ℕ → Option (List Given) → Read
+produce_read topic (Some records) = Calls (produce_of topic records)
+produce_read topic None = Refuses 422
 
--- the request is a produce whose body doesn't read
-pub record IsUnreadable (request : Request) : Type 0 where
-  pub topic : List ℕ
-  pub named : topic_of request ≡ Some topic
-  pub body : ReadsBody request.body None
+-- a Create with its name and its settings, if they read and are allowed; the name is empty where none is given
+abbrev pub create_read : List ℕ → Result (List ℕ × Settings) ℕ → Read
+create_read group (Ok made) = Calls (Of (key_in group made.0) (Creates made.1))
+create_read group (Err code) = Refuses code
 
--- a request of another kind is refused with 404, and one whose body doesn't read with 422
+-- an Assign of the parts, if they read
+abbrev pub assign_read : Key → Option (List TopicPart) → Read
+assign_read key (Some parts) = Calls (Of key (Assigns parts))
+assign_read key None = Refuses 422
+
+-- a Records with its limits, if they read
+abbrev pub records_read : Key → Option Limits → Read
+records_read key (Some limits) = Calls (Of key (AsksRecords [] limits.timeout limits.max_bytes))
+records_read key None = Refuses 422
+
+-- what a request that is sent to a place reads as
+abbrev pub ReadingAt : Place → Request → Read → Type 0
+ReadingAt (Topic topic) request read = (records : Option (List Given)) × ProducedAs request.body records × (read ≡ produce_read topic records)
+ReadingAt (Group group) request read = (made : Result (List ℕ × Settings) ℕ) × CreatedAs request.body made × (read ≡ create_read group made)
+ReadingAt (Instance key Delete) request read = read ≡ Calls (Of key Deletes)
+ReadingAt (Instance key Assign) request read = (parts : Option (List TopicPart)) × AssignedAs request.body parts × (read ≡ assign_read key parts)
+ReadingAt (Instance key Assignments) request read = read ≡ Calls (Of key AsksAssignments)
+ReadingAt (Instance key Records) request read = read ≡ records_read key (limits_of request.query)
+
+-- a request that has no place is refused with 404
+abbrev pub ReadingIn : Option Place → Request → Read → Type 0
+ReadingIn None request read = read ≡ Refuses 404
+ReadingIn (Some place) request read = ReadingAt place request read
+
+-- what a request reads as
 abbrev pub Reading : Request → Read → Type 0
-Reading request (Calls call) = IsProduce request call
-Reading request (Refuses code) =
-    ((code ≡ 404) × (topic_of request ≡ None)) ⊎ ((code ≡ 422) × IsUnreadable request)
+Reading request read = ReadingIn (place_of request) request read
 
 -- a reply to a request that is no call: its refusal, or want of memory
 abbrev pub Refusal : Request → Reply → Type 0

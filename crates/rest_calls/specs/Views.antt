@@ -1,13 +1,18 @@
 -- What a call stands for in the sequential model of the gateway (Confluent REST Proxy API v2, produce).
-use Rattle.std.specs.Prelude.{◌≡◌, ◌<◌, ◌^◌, ℕ, pos, nat_abs, List, length, map, All, Option, Some, None, option_map}
+use Rattle.std.specs.Prelude.{◌≡◌, ◌<◌, ◌^◌, ◌+◌, ◌-◌, min, ℕ, pos, nat_abs, Bool, true, false, cond, codes, decimal, List, [], ◌∷◌, ◌++◌, length, map, All, Option, Some, None, option_map}
 use Rattle.model.specs.Entry as model
-use Rattle.model.specs.Entry.Call.{Produce as Asks}
+use Rattle.model.specs.World as world
+use Rattle.model.specs.World.Format.{Binary}
+use Rattle.model.specs.Entry.Act.{Create as Creates, Delete as Deletes, Assign as Assigns, Assignments as AsksAssignments, Records as AsksRecords}
+use Rattle.model.specs.Entry.Call.{Produce as Asks, Of}
+use Rattle.broker_link.specs.Fetching.{at_of, edge_view}
 use Rattle.rest_calls.specs.declared.call.Payload.{Payload}
 use Rattle.rest_calls.specs.declared.call.Payload.TheVariants.{Null, Ready}
 use Rattle.rest_calls.specs.declared.call.Row.{Row}
 use Rattle.rest_calls.specs.declared.call.Batch.{Batch}
 use Rattle.rest_calls.specs.declared.call.Call.{Call}
-use Rattle.rest_calls.specs.declared.call.Call.TheVariants.{Produce}
+use Rattle.rest_calls.specs.declared.call.Settings.{Settings}
+use Rattle.rest_calls.specs.declared.call.Call.TheVariants.{Produce, Create, Delete, Assign, Assignments, Records}
 
 -- the bytes of a key or value: null has none
 abbrev pub bytes_of : Payload → Option (List ℕ)
@@ -27,22 +32,66 @@ givens_of batch = map given_of batch.rows
 abbrev pub batch_of : Batch → model.Batch
 batch_of batch = record { key_id = None; value_id = None; records = givens_of batch }
 
--- what a call asks
+-- The settings of a new instance: its form is the binary one, and nothing is committed by itself yet.
+abbrev pub settings_of : Settings → world.Settings
+settings_of s = record { format = Binary; reset = edge_view s.reset; auto_commit = false; min_bytes = s.min_bytes; timeout_ms = s.timeout_ms }
+
+-- a consumer's key
+abbrev pub key_in : List ℕ → List ℕ → world.Key
+key_in group instance = record { group = group; instance = instance }
+
+-- the name that a Create gives, or an empty one
+abbrev pub name_in : Option (List ℕ) → List ℕ
+name_in None = []
+name_in (Some name) = name
+
+-- What a call asks. A Create without a name has an empty one here, which no instance has.
 abbrev pub asked_of : Call → model.Call
 asked_of (Produce topic batch) = Asks topic (batch_of batch)
+asked_of (Create group name settings) = Of (key_in group (name_in name)) (Creates (settings_of settings))
+asked_of (Delete group instance) = Of (key_in group instance) Deletes
+asked_of (Assign group instance parts) = Of (key_in group instance) (Assigns (map at_of parts))
+asked_of (Assignments group instance) = Of (key_in group instance) AsksAssignments
+asked_of (Records group instance timeout bound) = Of (key_in group instance) (AsksRecords [] timeout bound)
+
+-- no byte
+abbrev pub is_empty : List ℕ → Bool
+is_empty [] = true
+is_empty (x ∷ xs) = false
+
+-- a Create that has no name yet
+abbrev pub is_unnamed : model.Call → Bool
+is_unnamed (Of key (Creates settings)) = is_empty key.instance
+is_unnamed _ = false
+
+-- the name that the gateway gives: the worker's number, and the count of the instances that it has named with this one
+abbrev pub given_name : (worker count : ℕ) → List ℕ
+given_name worker count = codes "auto-" ++ (decimal worker ++ (codes "-" ++ decimal count))
+
+-- one more; a count that stands at its end stays there
+abbrev pub counted : ℕ → ℕ
+counted n = min (n + 1) (2 ^ 64 - 1)
+
+-- the call as it enters a shard: a Create without a name gets one, where `unnamed` were named before
+abbrev pub entered : (worker unnamed : ℕ) → model.Call → model.Call
+entered worker unnamed (Of key (Creates settings)) = Of (key_in key.group (cond (is_empty key.instance) (given_name worker (counted unnamed)) key.instance)) (Creates settings)
+entered worker unnamed call = call
 
 -- the record names a partition from 0 to 2147483647
 abbrev pub NamesPartition : Row → Type 0
 NamesPartition row = (n : ℕ) × (row.partition ≡ Some (pos n)) × (n < 2 ^ 31)
 
--- each record of the call names its partition
+-- each record of a produce names its partition
 abbrev pub NamesPartitions : Call → Type 0
 NamesPartitions (Produce topic batch) = All NamesPartition batch.rows
+NamesPartitions _ = Unit {0}
 
--- the call has a record
+-- a produce has a record
 abbrev pub HasRecords : Call → Type 0
 HasRecords (Produce topic batch) = 0 < length batch.rows
+HasRecords _ = Unit {0}
 
--- the call has fewer than 2^63 records
+-- a produce has fewer than 2^63 records
 abbrev pub HasFewRecords : Call → Type 0
 HasFewRecords (Produce topic batch) = length batch.rows < 2 ^ 63
+HasFewRecords _ = Unit {0}

@@ -3,23 +3,19 @@ ghost use Rattle.serde_json.specs.View.{view, items_view};
 ghost use Rattle.serde_json.specs.Find.{get, as_array};
 ghost use Rattle.rest_calls.specs.Views.{bytes_of, given_of, givens_of, NamesPartition};
 ghost use Rattle.rest_calls.specs.Body.{decoded_of, payload_of, partition_of, record_of, records_of, some_records_of, body_of};
-ghost use Rattle.rest_calls.specs.Reads.{Reads, BodyReads};
+ghost use Rattle.rest_calls.specs.Reading.{ProducedAs};
+ghost use Rattle.rest_calls.specs.Reads.{Reads, ReadsAs};
 
 use crate::call::{Batch, Payload, Row};
+use crate::unread::Unread;
+use crate::value::json_of;
 use base64::DecodeAllocError;
 use base64::engine::general_purpose::STANDARD;
 use gate_io::Items;
 use serde_json::Value;
 use std::alloc::Global;
 
-/// Why a body gives no records.
-#[derive(Clone, Copy, Debug, PartialEq, Eq)]
-pub(crate) enum Unread {
-    Unreadable,
-    Want,
-}
-
-fn partition_of(object: &Value) -> Option<i32>
+pub(crate) fn partition_of(object: &Value) -> Option<i32>
     ensures value { option_map nat_abs result ≡ partition_of (view object.now) }
     ensures named { IfSome result (λ p. (n : ℕ) × (p ≡ pos n) × (n < 2 ^ 31)) }
 {
@@ -118,19 +114,14 @@ fn batch_of(alloc: Global, body: &Value) -> Result<Batch, Unread>
 
 /// Reads the body of a produce of binary records.
 pub(crate) fn read_body(alloc: Global, body: &[u8]) -> Result<Batch, Unread>
-    ensures reads { BodyReads body.now result }
+    ensures reads { ReadsAs givens_of result (ProducedAs body.now) }
     ensures some { IfOk result (λ batch. 0 < length batch.rows) }
     ensures few { IfOk result (λ batch. length batch.rows < 2 ^ 63) }
     ensures named { IfOk result (λ batch. All NamesPartition batch.rows) }
 {
-    let value = match Value::from_slice(alloc, body) {
+    let value = match json_of(alloc, body) {
         Ok(value) => value,
-        Err(e) => {
-            if e.is_memory() {
-                return Err(Unread::Want);
-            }
-            return Err(Unread::Unreadable);
-        }
+        Err(e) => return Err(e),
     };
     batch_of(alloc, &value)
 }

@@ -1,11 +1,23 @@
 //! Calls from HTTP requests.
 #![tactic(auto)]
 
+mod assign;
 mod body;
 mod call;
+mod create;
+mod digits;
+mod key;
 mod path;
+mod place;
+mod query;
 mod reading;
+mod sent;
+#[cfg(test)]
+mod shown;
+mod unread;
+mod value;
 
-pub use call::{Batch, Call, Payload, Row};
+pub use call::{Batch, Call, Payload, Row, Settings};
+pub use key::key_of;
 pub use path::is_topic_name;
 pub use reading::{call_of, readings_are_one};

@@ -5,13 +5,14 @@ ghost use Rattle.rest_codes.specs.Errors.{refusal_of};
 ghost use Rattle.rest_codes.specs.declared.response.Reply.TheVariants.{Want as WantReply};
 ghost use Rattle.http_conn.specs.declared.request.Request.{Request};
 
-use crate::body::{Unread, read_body};
 use crate::call::Call;
-use crate::path::topic_of;
-use gate_io::{Text, Want};
+use crate::place::place_of;
+use crate::sent::read_at;
+use crate::unread::Unread;
+use gate_io::Want;
 use http_conn::Request;
 use rest_codes::{Reply, refusal};
-use std::alloc::{AllocError, Global};
+use std::alloc::Global;
 
 /// The reply that refuses a request, or that of want of memory.
 fn refused(alloc: Global, code: u32) -> Reply
@@ -24,7 +25,8 @@ fn refused(alloc: Global, code: u32) -> Reply
 }
 
 /// Reads a whole request as a call. An error is the reply that refuses it: 404 where it is of
-/// another kind, 422 where its body doesn't read.
+/// another kind, 422 where its body or its query doesn't read, 42204 where a new instance can't
+/// have the name or the settings that the body gives it.
 pub fn call_of(alloc: Global, request: &Request) -> Result<Call, Reply>
     ensures reads { IfOk result (λ call. Reading request.now (Calls (asked_of call))) }
     ensures records { IfOk result HasRecords }
@@ -33,17 +35,14 @@ pub fn call_of(alloc: Global, request: &Request) -> Result<Call, Reply>
 
     ensures refused { IfErr result (Refusal request.now) }
 {
-    let Some(name) = topic_of(request) else {
+    let Some(place) = place_of(request) else {
         return Err(refused(alloc, 404));
     };
-    let batch = match read_body(alloc, request.body.as_slice()) {
-        Ok(batch) => batch,
-        Err(Unread::Unreadable) => return Err(refused(alloc, 422)),
-        Err(Unread::Want) => return Err(Reply::Want),
-    };
-    match Text::from_str(alloc, name) {
-        Ok(topic) => Ok(Call::Produce { topic, batch }),
-        Err(AllocError) => Err(Reply::Want),
+    match read_at(alloc, place, request) {
+        Ok(call) => Ok(call),
+        Err(Unread::Unreadable) => Err(refused(alloc, 422)),
+        Err(Unread::Invalid) => Err(refused(alloc, 42204)),
+        Err(Unread::Want) => Err(Reply::Want),
     }
 }
 

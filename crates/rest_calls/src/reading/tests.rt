@@ -1,10 +1,6 @@
 use super::call_of;
-use crate::call::{Call, Payload, Row};
 use crate::path::is_topic_name;
-use gate_io::{Items, Text};
-use http::Method;
-use http_conn::Request;
-use rest_codes::Reply;
+use crate::shown::{request_of, shown};
 use std::alloc::{AllocError, Global};
 use std::test::Fail;
 
@@ -12,79 +8,9 @@ const BINARY: &str = "application/vnd.kafka.binary.v2+json";
 
 const ONE_RECORD: &[u8] = b"{\"records\":[{\"value\":\"S2Fma2E=\",\"partition\":0}]}";
 
-/// A request with this content type, or with none where it is empty.
-fn request_of(
-    alloc: Global,
-    method: &str,
-    path: &str,
-    media: &str,
-    body: &[u8],
-) -> Result<Request, Fail> {
-    let content_type = if media.is_empty() {
-        None
-    } else {
-        Some(Items::from_slice(alloc, media.as_bytes())?)
-    };
-    Ok(Request {
-        method: Method::from_bytes(alloc, method.as_bytes())?,
-        path: Text::from_str(alloc, path)?,
-        query: Text::from_str(alloc, "")?,
-        accept: None,
-        content_type,
-        encoded: false,
-        close: false,
-        body: Items::from_slice(alloc, body)?,
-    })
-}
-
-/// The bytes in hexadecimal behind a `#`, or `null`.
-fn show_payload(alloc: Global, out: &mut String, payload: &Payload) -> Result<(), AllocError> {
-    let Payload::Ready(bytes) = payload else {
-        return out.push_str("null");
-    };
-    out.push_str("#")?;
-    for byte in bytes.as_slice() {
-        let text = format!(in alloc; "{byte:02x}")?;
-        out.push_str(text.as_str())?;
-    }
-    Ok(())
-}
-
-/// Each record as its partition, key and value.
-fn show_rows(alloc: Global, out: &mut String, rows: &[Row]) -> Result<(), AllocError> {
-    for row in rows {
-        if let Some(partition) = row.partition {
-            let text = format!(in alloc; "; {partition} ")?;
-            out.push_str(text.as_str())?;
-        }
-        show_payload(alloc, out, &row.key)?;
-        out.push_str(" ")?;
-        show_payload(alloc, out, &row.value)?;
-    }
-    Ok(())
-}
-
-/// A call as a text, or the code and message of a refusal.
-fn shown(alloc: Global, read: &Result<Call, Reply>) -> Result<String, AllocError> {
-    let mut out = String::new(alloc);
-    match read {
-        Ok(Call::Produce { topic, batch }) => {
-            out.push_str(topic.as_str())?;
-            show_rows(alloc, &mut out, batch.rows.as_slice())?;
-        }
-        Err(Reply::Error { code, text }) => {
-            let message = text.as_str();
-            let refusal = format!(in alloc; "{code} {message}")?;
-            out.push_str(refusal.as_str())?;
-        }
-        Err(_) => out.push_str("another reply")?,
-    }
-    Ok(out)
-}
-
 /// What a POST of binary records to `/topics/t` with this body reads as.
 fn shown_body(alloc: Global, body: &[u8]) -> Result<String, Fail> {
-    let request = request_of(alloc, "POST", "/topics/t", BINARY, body)?;
+    let request = request_of(alloc, "POST", "/topics/t", "", BINARY, body)?;
     Ok(shown(alloc, &call_of(alloc, &request))?)
 }
 
@@ -276,7 +202,7 @@ fn refuses_a_request_of_another_kind(rt: HostRuntime) -> Result<(), Fail> {
     ];
     let alloc = rt.alloc();
     for (place, (method, path, media)) in cases.iter().enumerate() {
-        let request = request_of(alloc, method, path, media, b"{}")?;
+        let request = request_of(alloc, method, path, "", media, b"{}")?;
         let text = shown(alloc, &call_of(alloc, &request))?;
         assert_eq!(rt; text.as_str(), "404 Not found.", "case {place}");
     }
@@ -293,13 +219,13 @@ fn takes_names_of_1_to_249_characters(rt: HostRuntime) -> Result<(), Fail> {
     for (place, (end, is_taken)) in [("", true), ("y", true), ("yz", false)].iter().enumerate() {
         let long = long.as_str();
         let path = format!(in alloc; "/topics/{long}{end}")?;
-        let request = request_of(alloc, "POST", path.as_str(), BINARY, ONE_RECORD)?;
+        let request = request_of(alloc, "POST", path.as_str(), "", BINARY, ONE_RECORD)?;
         assert_eq!(rt; call_of(alloc, &request).is_ok(), *is_taken, "case {place}");
     }
     for name in [".", "..", "a.b_c-9Z"] {
         assert!(rt; is_topic_name(name), "{name}");
         let path = format!(in alloc; "/topics/{name}")?;
-        let request = request_of(alloc, "POST", path.as_str(), BINARY, ONE_RECORD)?;
+        let request = request_of(alloc, "POST", path.as_str(), "", BINARY, ONE_RECORD)?;
         let text = shown(alloc, &call_of(alloc, &request))?;
         let want = format!(in alloc; "{name}; 0 null #4b61666b61")?;
         assert_eq!(rt; text.as_str(), want.as_str());

@@ -1,76 +1,93 @@
-use Rattle.std.proofs.Common.{◌≡◌, ◌∙◌, ap, sym, subst, inr, List, ℕ}
+use Rattle.std.proofs.Common.{◌≡◌, ◌∙◌, ap, sym, subst, refl, inr, [], List, ℕ}
 use Rattle.std.specs.Prelude.{⊤}
-use Rattle.model.specs.Log.{Log}
-use Rattle.model.specs.World.{nobody}
-use Rattle.broker_link.specs.Made.{empty_log}
-use Rattle.broker_link.specs.Stored.{log_of}
-use Rattle.proxy_cli.specs.Served.{at_rest}
-use Rattle.proxy_cli.specs.Session.{idle_ms, ServesAll, ServesSome, ServesFirst, ServesUntil}
+use Rattle.model.specs.Log.{IsLog, shape_of}
+use Rattle.broker_link.specs.Made.{ArePlans, empty_log, no_counts}
+use Rattle.broker_link.specs.Stored.{log_of, log_with}
+use Rattle.broker_link.specs.declared.memory.MemLink.{MemLink}
+use Rattle.proxy_cli.specs.Served.{Station, station}
+use Rattle.proxy_cli.specs.Session.{first_station, ServesAll, ServesSome, ServesFirst, ServesUntil}
 use Rattle.proxy_cli.specs.Words.{advertise_of, plans_of}
+use Rattle.proxy_cli.proofs.Plainly.{all_plainly, first_plainly, some_plainly, until_plainly, moved}
 use Rattle.proxy_cli.proofs.Statuses.{zero_is, three_is, four_is, seven_is}
 use Rattle.proxy_cli.proofs.program.run_session.Goals as goal
 
 pub returns-clause-output : goal.returns-clause-output
 returns-clause-output g c = λ zero.
     let command = c.in-Ok.command in
-    let adv : List ℕ = advertise_of command in
-    let first : Log = log_of c.in-Ok-new.link.topics.items in
-    let end : Log = log_of c.serve-served.new.link.topics.items in
-    let start : first ≡ empty_log (plans_of command) = c.in-Ok-new.ensures.log ∙ ap (λ (ps : List (List ℕ × ℕ)). empty_log ps) c.topics_in.ensures in
-    let said = zero_is c.serve-served.result _ (sym c.status_of.ensures ∙ zero) c.serve-served.ensures.output in (
-      command,
-      c.in-Ok.ensures.words,
-      end,
-      c.serve-served.new.last,
-      subst (λ (l : Log). ServesAll idle_ms ⊤ adv nobody l (g.S.Source.left c.args.src.now) (g.K.Sink.held c.args.sink.now) (g.K.Sink.held c.serve-served.new.sink) end (at_rest c.serve-served.new.last)) start (said c.in-Ok-new.ensures.tells c.in-Ok-new.ensures.is_log idle_ms adv),
-    )
+    let made = c.new-desk.result in
+    let done = c.serve_stream-served.new.desk in
+    let link_is : made.shard.link ≡ c.in-Ok-new.link = c.new-desk.ensures.link in
+    let tells : ArePlans (shape_of (log_of made.shard.link.topics.list.items)) = subst (λ (l : MemLink). ArePlans (shape_of (log_of l.topics.list.items))) (sym link_is) c.in-Ok-new.ensures.tells in
+    let is_log : IsLog (log_with made.shard.link.topics.list.items made.shard.link.others) = subst (λ (l : MemLink). IsLog (log_with l.topics.list.items l.others)) (sym link_is) c.in-Ok-new.ensures.is_log in
+    let plain : (made.shard.link.script.fails ≡ []) × (made.shard.link.script.others ≡ []) = subst (λ (l : MemLink). (l.script.fails ≡ []) × (l.script.others ≡ [])) (sym link_is) c.in-Ok-new.ensures.plain in
+    let log_is : log_with made.shard.link.topics.list.items made.shard.link.others ≡ empty_log (plans_of command) =
+    ap (λ (l : MemLink). log_with l.topics.list.items l.others) link_is ∙ (c.in-Ok-new.ensures.log ∙ ap (λ (ps : List (List ℕ × ℕ)). empty_log ps) c.topics_in.ensures) in
+    let counts_is : made.shard.link.tally ≡ no_counts = ap (λ (l : MemLink). l.tally) link_is ∙ c.in-Ok-new.ensures.counts in
+    let name_is : made.shard.advertise ≡ advertise_of command = c.new-desk.ensures.advertise ∙ (c.in-Ok-from_str.ensures ∙ c.advertise_in.ensures) in
+    let first : Station = station made.shard.instances.items made.shard.last (log_with made.shard.link.topics.list.items made.shard.link.others) made.shard.link.tally (g.C.Clock.hand c.args.clock.now) made.unnamed in
+    let end : Station = station done.shard.instances.items done.shard.last (log_with done.shard.link.topics.list.items done.shard.link.others) done.shard.link.tally (g.C.Clock.hand c.serve_stream-served.new.clock) done.unnamed in
+    let start : first ≡ first_station command (g.C.Clock.hand c.args.clock.now) =
+    (λ i. station (c.new-desk.ensures.instances i) (c.new-desk.ensures.last i) (log_is i) (counts_is i) (g.C.Clock.hand c.args.clock.now) (c.new-desk.ensures.unnamed i)) in
+    let said = zero_is c.serve_stream-served.result _ (sym c.status_of.ensures ∙ zero) c.serve_stream-served.ensures.output in
+    (command, c.in-Ok.ensures.words, end, refl, moved (λ (a : List ℕ) (s : Station). ServesAll ⊤ (g.C.Clock.tells c.args.clock.now) a s (g.S.Source.left c.args.src.now) (g.K.Sink.held c.args.sink.now) (g.K.Sink.held c.serve_stream-served.new.sink) end) made.shard.advertise (advertise_of command) first (first_station command (g.C.Clock.hand c.args.clock.now)) name_is start (all_plainly _ plain (g.C.Clock.tells c.args.clock.now) made.shard.advertise first (g.S.Source.left c.args.src.now) (g.K.Sink.held c.args.sink.now) (g.K.Sink.held c.serve_stream-served.new.sink) end (said tells is_log)))
 
 pub returns-clause-lost : goal.returns-clause-lost
 returns-clause-lost g c = λ three.
     let command = c.in-Ok.command in
-    let adv : List ℕ = advertise_of command in
-    let first : Log = log_of c.in-Ok-new.link.topics.items in
-    let end : Log = log_of c.serve-served.new.link.topics.items in
-    let start : first ≡ empty_log (plans_of command) = c.in-Ok-new.ensures.log ∙ ap (λ (ps : List (List ℕ × ℕ)). empty_log ps) c.topics_in.ensures in
-    let said = c.serve-served.ensures.lost (three_is c.serve-served.result (sym c.status_of.ensures ∙ three)) in (
-      command,
-      c.in-Ok.ensures.words,
-      end,
-      c.serve-served.new.last,
-      subst (λ (l : Log). ServesSome idle_ms ⊤ adv nobody l (g.S.Source.left c.args.src.now) (g.S.Source.left c.serve-served.new.source) (g.K.Sink.held c.args.sink.now) (g.K.Sink.held c.serve-served.new.sink) end (at_rest c.serve-served.new.last)) start (said c.in-Ok-new.ensures.tells c.in-Ok-new.ensures.is_log idle_ms adv),
-    )
+    let made = c.new-desk.result in
+    let done = c.serve_stream-served.new.desk in
+    let link_is : made.shard.link ≡ c.in-Ok-new.link = c.new-desk.ensures.link in
+    let tells : ArePlans (shape_of (log_of made.shard.link.topics.list.items)) = subst (λ (l : MemLink). ArePlans (shape_of (log_of l.topics.list.items))) (sym link_is) c.in-Ok-new.ensures.tells in
+    let is_log : IsLog (log_with made.shard.link.topics.list.items made.shard.link.others) = subst (λ (l : MemLink). IsLog (log_with l.topics.list.items l.others)) (sym link_is) c.in-Ok-new.ensures.is_log in
+    let plain : (made.shard.link.script.fails ≡ []) × (made.shard.link.script.others ≡ []) = subst (λ (l : MemLink). (l.script.fails ≡ []) × (l.script.others ≡ [])) (sym link_is) c.in-Ok-new.ensures.plain in
+    let log_is : log_with made.shard.link.topics.list.items made.shard.link.others ≡ empty_log (plans_of command) =
+    ap (λ (l : MemLink). log_with l.topics.list.items l.others) link_is ∙ (c.in-Ok-new.ensures.log ∙ ap (λ (ps : List (List ℕ × ℕ)). empty_log ps) c.topics_in.ensures) in
+    let counts_is : made.shard.link.tally ≡ no_counts = ap (λ (l : MemLink). l.tally) link_is ∙ c.in-Ok-new.ensures.counts in
+    let name_is : made.shard.advertise ≡ advertise_of command = c.new-desk.ensures.advertise ∙ (c.in-Ok-from_str.ensures ∙ c.advertise_in.ensures) in
+    let first : Station = station made.shard.instances.items made.shard.last (log_with made.shard.link.topics.list.items made.shard.link.others) made.shard.link.tally (g.C.Clock.hand c.args.clock.now) made.unnamed in
+    let end : Station = station done.shard.instances.items done.shard.last (log_with done.shard.link.topics.list.items done.shard.link.others) done.shard.link.tally (g.C.Clock.hand c.serve_stream-served.new.clock) done.unnamed in
+    let start : first ≡ first_station command (g.C.Clock.hand c.args.clock.now) =
+    (λ i. station (c.new-desk.ensures.instances i) (c.new-desk.ensures.last i) (log_is i) (counts_is i) (g.C.Clock.hand c.args.clock.now) (c.new-desk.ensures.unnamed i)) in
+    let said = c.serve_stream-served.ensures.lost (three_is c.serve_stream-served.result (sym c.status_of.ensures ∙ three)) in
+    (command, c.in-Ok.ensures.words, end, refl, moved (λ (a : List ℕ) (s : Station). ServesSome ⊤ (g.C.Clock.tells c.args.clock.now) a s (g.S.Source.left c.args.src.now) (g.S.Source.left c.serve_stream-served.new.source) (g.K.Sink.held c.args.sink.now) (g.K.Sink.held c.serve_stream-served.new.sink) end) made.shard.advertise (advertise_of command) first (first_station command (g.C.Clock.hand c.args.clock.now)) name_is start (some_plainly _ plain (g.C.Clock.tells c.args.clock.now) made.shard.advertise first (g.S.Source.left c.args.src.now) (g.S.Source.left c.serve_stream-served.new.source) (g.K.Sink.held c.args.sink.now) (g.K.Sink.held c.serve_stream-served.new.sink) end (said tells is_log)))
 
 pub returns-clause-cut : goal.returns-clause-cut
 returns-clause-cut g c = λ four.
     let command = c.in-Ok.command in
-    let adv : List ℕ = advertise_of command in
-    let first : Log = log_of c.in-Ok-new.link.topics.items in
-    let end : Log = log_of c.serve-served.new.link.topics.items in
-    let start : first ≡ empty_log (plans_of command) = c.in-Ok-new.ensures.log ∙ ap (λ (ps : List (List ℕ × ℕ)). empty_log ps) c.topics_in.ensures in
-    let fault = four_is c.serve-served.result (sym c.status_of.ensures ∙ four) in
-    let said = c.serve-served.ensures.cut fault.0 fault.1 in (
-      command,
-      c.in-Ok.ensures.words,
-      end,
-      c.serve-served.new.last,
-      (
-        fault.0,
-        subst (λ (l : Log). ServesUntil idle_ms ⊤ adv nobody l (g.S.Source.left c.args.src.now) (g.K.Sink.held c.args.sink.now) (g.K.Sink.held c.serve-served.new.sink) fault.0 end (at_rest c.serve-served.new.last)) start (said c.in-Ok-new.ensures.tells c.in-Ok-new.ensures.is_log idle_ms adv),
-      ),
-    )
+    let made = c.new-desk.result in
+    let done = c.serve_stream-served.new.desk in
+    let link_is : made.shard.link ≡ c.in-Ok-new.link = c.new-desk.ensures.link in
+    let tells : ArePlans (shape_of (log_of made.shard.link.topics.list.items)) = subst (λ (l : MemLink). ArePlans (shape_of (log_of l.topics.list.items))) (sym link_is) c.in-Ok-new.ensures.tells in
+    let is_log : IsLog (log_with made.shard.link.topics.list.items made.shard.link.others) = subst (λ (l : MemLink). IsLog (log_with l.topics.list.items l.others)) (sym link_is) c.in-Ok-new.ensures.is_log in
+    let plain : (made.shard.link.script.fails ≡ []) × (made.shard.link.script.others ≡ []) = subst (λ (l : MemLink). (l.script.fails ≡ []) × (l.script.others ≡ [])) (sym link_is) c.in-Ok-new.ensures.plain in
+    let log_is : log_with made.shard.link.topics.list.items made.shard.link.others ≡ empty_log (plans_of command) =
+    ap (λ (l : MemLink). log_with l.topics.list.items l.others) link_is ∙ (c.in-Ok-new.ensures.log ∙ ap (λ (ps : List (List ℕ × ℕ)). empty_log ps) c.topics_in.ensures) in
+    let counts_is : made.shard.link.tally ≡ no_counts = ap (λ (l : MemLink). l.tally) link_is ∙ c.in-Ok-new.ensures.counts in
+    let name_is : made.shard.advertise ≡ advertise_of command = c.new-desk.ensures.advertise ∙ (c.in-Ok-from_str.ensures ∙ c.advertise_in.ensures) in
+    let first : Station = station made.shard.instances.items made.shard.last (log_with made.shard.link.topics.list.items made.shard.link.others) made.shard.link.tally (g.C.Clock.hand c.args.clock.now) made.unnamed in
+    let end : Station = station done.shard.instances.items done.shard.last (log_with done.shard.link.topics.list.items done.shard.link.others) done.shard.link.tally (g.C.Clock.hand c.serve_stream-served.new.clock) done.unnamed in
+    let start : first ≡ first_station command (g.C.Clock.hand c.args.clock.now) =
+    (λ i. station (c.new-desk.ensures.instances i) (c.new-desk.ensures.last i) (log_is i) (counts_is i) (g.C.Clock.hand c.args.clock.now) (c.new-desk.ensures.unnamed i)) in
+    let fault = four_is c.serve_stream-served.result (sym c.status_of.ensures ∙ four) in
+    let said = c.serve_stream-served.ensures.cut fault.0 fault.1 in
+    (command, c.in-Ok.ensures.words, end, refl, (fault.0, moved (λ (a : List ℕ) (s : Station). ServesUntil ⊤ (g.C.Clock.tells c.args.clock.now) a s (g.S.Source.left c.args.src.now) (g.K.Sink.held c.args.sink.now) (g.K.Sink.held c.serve_stream-served.new.sink) fault.0 end) made.shard.advertise (advertise_of command) first (first_station command (g.C.Clock.hand c.args.clock.now)) name_is start (until_plainly _ plain (g.C.Clock.tells c.args.clock.now) made.shard.advertise first (g.S.Source.left c.args.src.now) (g.K.Sink.held c.args.sink.now) (g.K.Sink.held c.serve_stream-served.new.sink) fault.0 end (said tells is_log))))
 
 pub returns-clause-starved : goal.returns-clause-starved
 returns-clause-starved g c = λ seven.
     let command = c.in-Ok.command in
-    let adv : List ℕ = advertise_of command in
-    let first : Log = log_of c.in-Ok-new.link.topics.items in
-    let end : Log = log_of c.serve-served.new.link.topics.items in
-    let start : first ≡ empty_log (plans_of command) = c.in-Ok-new.ensures.log ∙ ap (λ (ps : List (List ℕ × ℕ)). empty_log ps) c.topics_in.ensures in
-    let said = c.serve-served.ensures.starved (seven_is c.serve-served.result (sym c.status_of.ensures ∙ seven)) in
-    inr (
-      command,
-      c.in-Ok.ensures.words,
-      end,
-      c.serve-served.new.last,
-      subst (λ (l : Log). ServesFirst idle_ms ⊤ adv nobody l (g.S.Source.left c.args.src.now) (g.K.Sink.held c.args.sink.now) (g.K.Sink.held c.serve-served.new.sink) end (at_rest c.serve-served.new.last)) start (said c.in-Ok-new.ensures.tells c.in-Ok-new.ensures.is_log idle_ms adv),
-    )
+    let made = c.new-desk.result in
+    let done = c.serve_stream-served.new.desk in
+    let link_is : made.shard.link ≡ c.in-Ok-new.link = c.new-desk.ensures.link in
+    let tells : ArePlans (shape_of (log_of made.shard.link.topics.list.items)) = subst (λ (l : MemLink). ArePlans (shape_of (log_of l.topics.list.items))) (sym link_is) c.in-Ok-new.ensures.tells in
+    let is_log : IsLog (log_with made.shard.link.topics.list.items made.shard.link.others) = subst (λ (l : MemLink). IsLog (log_with l.topics.list.items l.others)) (sym link_is) c.in-Ok-new.ensures.is_log in
+    let plain : (made.shard.link.script.fails ≡ []) × (made.shard.link.script.others ≡ []) = subst (λ (l : MemLink). (l.script.fails ≡ []) × (l.script.others ≡ [])) (sym link_is) c.in-Ok-new.ensures.plain in
+    let log_is : log_with made.shard.link.topics.list.items made.shard.link.others ≡ empty_log (plans_of command) =
+    ap (λ (l : MemLink). log_with l.topics.list.items l.others) link_is ∙ (c.in-Ok-new.ensures.log ∙ ap (λ (ps : List (List ℕ × ℕ)). empty_log ps) c.topics_in.ensures) in
+    let counts_is : made.shard.link.tally ≡ no_counts = ap (λ (l : MemLink). l.tally) link_is ∙ c.in-Ok-new.ensures.counts in
+    let name_is : made.shard.advertise ≡ advertise_of command = c.new-desk.ensures.advertise ∙ (c.in-Ok-from_str.ensures ∙ c.advertise_in.ensures) in
+    let first : Station = station made.shard.instances.items made.shard.last (log_with made.shard.link.topics.list.items made.shard.link.others) made.shard.link.tally (g.C.Clock.hand c.args.clock.now) made.unnamed in
+    let end : Station = station done.shard.instances.items done.shard.last (log_with done.shard.link.topics.list.items done.shard.link.others) done.shard.link.tally (g.C.Clock.hand c.serve_stream-served.new.clock) done.unnamed in
+    let start : first ≡ first_station command (g.C.Clock.hand c.args.clock.now) =
+    (λ i. station (c.new-desk.ensures.instances i) (c.new-desk.ensures.last i) (log_is i) (counts_is i) (g.C.Clock.hand c.args.clock.now) (c.new-desk.ensures.unnamed i)) in
+    let said = c.serve_stream-served.ensures.starved (seven_is c.serve_stream-served.result (sym c.status_of.ensures ∙ seven)) in
+    inr (command, c.in-Ok.ensures.words, end, refl, moved (λ (a : List ℕ) (s : Station). ServesFirst ⊤ (g.C.Clock.tells c.args.clock.now) a s (g.S.Source.left c.args.src.now) (g.K.Sink.held c.args.sink.now) (g.K.Sink.held c.serve_stream-served.new.sink) end) made.shard.advertise (advertise_of command) first (first_station command (g.C.Clock.hand c.args.clock.now)) name_is start (first_plainly _ plain (g.C.Clock.tells c.args.clock.now) made.shard.advertise first (g.S.Source.left c.args.src.now) (g.K.Sink.held c.args.sink.now) (g.K.Sink.held c.serve_stream-served.new.sink) end (said tells is_log)))

@@ -3,8 +3,9 @@ use Rattle.std.proofs.lemmas.List.{length_push}
 use Rattle.std.proofs.lemmas.List.Elements.{All-push}
 use Rattle.std.proofs.lemmas.Grind.{common_steps}
 use Rattle.rest_calls.specs.declared.call.Row.{Row}
-use Rattle.rest_calls.specs.Views.{NamesPartition}
-use Rattle.rest_calls.proofs.Records.{records_more}
+use Rattle.rest_calls.specs.Views.{given_of, NamesPartition}
+use Rattle.rest_calls.specs.Body.{record_of}
+use Rattle.rest_calls.proofs.Lists.{one_more}
 use Rattle.rest_calls.proofs.body.rows_of.Goals as goal
 
 pub loop-object-preserved : goal.loop-object-preserved
@@ -12,7 +13,7 @@ loop-object-preserved c =
     let rows = c.loop-object.rows.items in
     let row = c.in_ok-row.row in
     let pushed : c.push.new.self.items ≡ rows ++ row ∷ [] = grind (arith, common_steps) in
-    let more = records_more c.args.records.now c.loop-object.object-index c.object-item.result rows row c.loop-object-test.true c.object-item.is c.in_ok-row.ensures.reads in
+    let more = one_more given_of record_of c.args.records.now c.loop-object.object-index c.object-item.result rows row c.loop-object-test.true c.object-item.is c.in_ok-row.ensures.reads in
     record {
       reads = rw pushed (more ∙ c.loop-object.invariant.reads);
       named = subst (λ (l : List Row). All NamesPartition l) (sym pushed) (All-push NamesPartition rows row c.loop-object.invariant.named c.in_ok-row.ensures.named);

@@ -1,13 +1,13 @@
 use Rattle.std.proofs.Common.{◌≡◌, drop, length, All}
 use Rattle.serde_json.specs.View.{items_view}
-use Rattle.rest_calls.specs.Views.{NamesPartition}
-use Rattle.rest_calls.specs.Body.{records_of}
-use Rattle.rest_calls.proofs.Records.{behind}
+use Rattle.rest_calls.specs.Views.{given_of, NamesPartition}
+use Rattle.rest_calls.specs.Body.{record_of, records_of}
+use Rattle.rest_calls.proofs.Lists.{behind}
 use Rattle.rest_calls.proofs.body.rows_of.Given as goal
 
 abbrev pub invariant-loop-object : goal.invariant-loop-object
 invariant-loop-object l = record {
-  reads : behind l.rows.items (drop l.object-index l.records) ≡ records_of (items_view l.records);
+  reads : behind given_of record_of l.rows.items (drop l.object-index l.records) ≡ records_of (items_view l.records);
   named : All NamesPartition l.rows.items;
   as_many : length l.rows.items ≡ l.object-index;
 }

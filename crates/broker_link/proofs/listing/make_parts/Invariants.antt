@@ -1,0 +1,9 @@
+use Rattle.std.proofs.Common.{◌≡◌, ◌<◌, ◌^◌, length}
+use Rattle.broker_link.specs.Metadata.{NumberedFrom}
+use Rattle.broker_link.proofs.listing.make_parts.Given as goal
+
+abbrev pub invariant-loop-number : goal.invariant-loop-number
+invariant-loop-number l = record {
+  count : length l.parts ≡ l.number;
+  numbers : l.count < 2 ^ 31 → NumberedFrom 0 l.parts;
+}

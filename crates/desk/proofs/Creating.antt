@@ -1,0 +1,127 @@
+-- A call under whose key nobody is live: a Create makes one, and any other is refused.
+use Rattle.std.proofs.Common.{◌≡◌, ℕ, Bool, true, false, List, [], ◌∷◌, ◌++◌, refl, ap, sym, ◌∙◌, subst, arith, inl, inr, Option, Some, None}
+use Rattle.std.specs.Prelude.{ℤ, map, option_map, if◌then◌else◌}
+use Rattle.model.specs.Legal.{is_fault, is_refusal}
+use Rattle.model.specs.Log.{Log}
+use Rattle.model.specs.World.{Key, is_key, Settings, Consumer, IsConsumer, fresh}
+use Rattle.model.specs.Entry.{Act, Call, Reply}
+use Rattle.model.specs.Entry.Act.{Create}
+use Rattle.model.specs.Entry.Call.{Of}
+use Rattle.model.specs.Entry.Reply.{Made, Refused, Broker, Want}
+use Rattle.model.specs.Texts.Response.{Wanting}
+use Rattle.model.specs.Acts.{Gone}
+use Rattle.broker_link.specs.Causes.{Counts}
+use Rattle.broker_link.specs.Replies.{IsCounted}
+use Rattle.rest_calls.specs.Responses.{response_in}
+use Rattle.rest_codes.specs.declared.response.Reply.{Reply as CodeReply}
+use Rattle.rest_codes.specs.declared.response.Reply.TheVariants as reply
+use Rattle.instance.specs.declared.event.Event.{Event as CodeEvent}
+use Rattle.instance.specs.Views.{Live, event_of}
+use Rattle.instance.specs.Acting.{forms}
+use Rattle.instance.specs.Making.{SaysMade}
+use Rattle.instance.specs.Failing.{SaysOrWant}
+use Rattle.std.specs.List.{position}
+use Rattle.rest_calls.specs.Views.{key_in}
+use Rattle.desk.specs.Shelf.{consumer_in, group_in, name_in_call, key_of, is_create_call}
+use Rattle.desk.specs.Calling.{CallsSo, OthersStay}
+use Rattle.desk.proofs.Shelving.{missing, found_push, others_push, flipped}
+use Rattle.desk.proofs.Calls.{itself}
+
+pub is_fresh : (settings : Settings) (moment : ℕ) → IsConsumer (fresh settings moment)
+is_fresh settings moment = record { order = λ i j d less short. absurd (omega (arith, short)); low = λ k d short. absurd (omega (arith, short)); names = λ i j d less short. absurd (omega (arith, short)) }
+
+-- the gateway refused or found no memory, and the link was not asked
+uncounted : (c : Counts) (r : Reply) → (is_fault (Some r) ≡ false) → (is_refusal (Some r) ≡ false) → ((code : ℤ) → r ≡ Broker code → ⊥) → IsCounted c c r
+uncounted c r faultless unrefused codeless = record {
+  faults_kept = omega arith;
+  refusals_kept = omega arith;
+  sent_kept = omega arith;
+  polls_kept = omega arith;
+  beats_kept = omega arith;
+  fault = λ e. absurd (cc (faultless, e));
+  refusal = λ e. absurd (cc (unrefused, e));
+  code = λ code e. absurd (codeless code e);
+}
+
+want_uncounted : (c : Counts) → IsCounted c c Want
+want_uncounted c = uncounted c Want refl refl (λ code e. absurd (cc e))
+
+gone_wants : (moment : ℕ) (act : Act) (a : Log) → Gone moment act a [] (Some Want) a None
+gone_wants moment (Create settings) a = (refl, λ other at. refl, inr (record { says = refl; left = refl }))
+gone_wants moment act a = (refl, λ other at. refl, inr (record { says = refl; left = refl }))
+
+gone_refuses : (moment : ℕ) (key : Key) (act : Act) (a : Log) → is_create_call (Of key act) ≡ false → Gone moment act a [] (Some (Refused 40403)) a None
+gone_refuses moment key (Create settings) a other = absurd (cc other)
+gone_refuses moment key act a other = (refl, λ other at. refl, inl (record { says = refl; left = refl }))
+
+-- memory was wanting
+pub wants_calls : (advertise : List ℕ) (key : Key) (moment round : ℕ) (act : Act) (tells plain : Type 0) (counts : Counts) (a : Log) (left : Option Consumer) → left ≡ None
+    → CallsSo advertise key moment round act tells plain counts counts None a [] (Some Wanting) a left
+wants_calls advertise key moment round act tells plain counts a left is = subst (λ (o : Option Consumer). CallsSo advertise key moment round act tells plain counts counts None a [] (Some Wanting) a o) (sym is) (record {
+  reply = Some Want;
+  says = refl;
+  counted = want_uncounted counts;
+  unsubscribed = tt;
+  called = λ told log. record { turn_forms = forms; shows = λ table format bytes. refl; own = []; same = refl; says = refl; acts = gone_wants moment act a; added = refl };
+  there = λ told log were. tt;
+  good = λ is_plain told log were. tt;
+})
+
+-- nobody is live under the key
+pub missing_calls : (advertise : List ℕ) (key : Key) (moment round : ℕ) (act : Act) (tells plain : Type 0) (counts : Counts) (a : Log) (left : Option Consumer) (said : CodeReply) → left ≡ None
+    → is_create_call (Of key act) ≡ false → SaysOrWant (Refused 40403) said
+    → CallsSo advertise key moment round act tells plain counts counts None a [] (Some (response_in said)) a left
+missing_calls advertise key moment round act tells plain counts a left said is other (inr wants) =
+    subst (λ (r : CodeReply). CallsSo advertise key moment round act tells plain counts counts None a [] (Some (response_in r)) a left) (sym wants) (wants_calls advertise key moment round act tells plain counts a left is)
+missing_calls advertise key moment round act tells plain counts a left said is other (inl says) = subst (λ (o : Option Consumer). CallsSo advertise key moment round act tells plain counts counts None a [] (Some (response_in said)) a o) (sym is) (record {
+  reply = Some (Refused 40403);
+  says = ap Some (says advertise forms (Of key act));
+  counted = uncounted counts (Refused 40403) refl refl (λ code e. absurd (cc e));
+  unsubscribed = tt;
+  called = λ told log. record { turn_forms = forms; shows = λ table format bytes. refl; own = []; same = refl; says = ap Some (says advertise forms (Of key act)); acts = gone_refuses moment key act a other; added = refl };
+  there = λ told log were. tt;
+  good = λ is_plain told log were. tt;
+})
+
+-- a new one was made
+pub made_calls : (advertise : List ℕ) (key : Key) (moment round : ℕ) (act : Act) (tells plain : Type 0) (counts : Counts) (a : Log) (xs : List Live) (live : Live) (said : CodeReply)
+    → consumer_in xs key ≡ None → is_create_call (Of key act) ≡ true → SaysMade advertise key said → (said ≡ reply.Want → ⊥) → live.key ≡ key
+    → ((settings : Settings) → act ≡ Create settings → live.consumer ≡ fresh settings moment)
+    → CallsSo advertise key moment round act tells plain counts counts None a [] (Some (response_in said)) a (consumer_in (xs ++ live ∷ []) key)
+made_calls advertise key moment round act tells plain counts a xs live said none creates (inr wants) some same new = absurd (some wants)
+made_calls advertise key moment round (Create settings) tells plain counts a xs live said none creates (inl says) some same new =
+    let now : consumer_in (xs ++ live ∷ []) key ≡ Some (fresh settings moment) = found_push xs key live none (subst (λ (k : Key). is_key k key ≡ true) (sym same) (itself key)) ∙ ap Some (new settings refl) in
+    subst (λ (o : Option Consumer). CallsSo advertise key moment round (Create settings) tells plain counts counts None a [] (Some (response_in said)) a o) (sym now) (record {
+      reply = Some Made;
+      says = ap Some (says forms settings);
+      counted = uncounted counts Made refl refl (λ code e. absurd (cc e));
+      unsubscribed = tt;
+      called = λ told log. record { turn_forms = forms; shows = λ table format bytes. refl; own = []; same = refl; says = ap Some (says forms settings); acts = (refl, λ other at. refl, inl (record { says = refl; left = refl })); added = refl };
+      there = λ told log were k d short. absurd (omega (arith, short));
+      good = λ is_plain told log were. tt;
+    })
+made_calls advertise key moment round act tells plain counts a xs live said none creates (inl says) some same new = absurd (cc creates)
+
+pub made_others : (xs : List Live) (live : Live) (key : Key) → live.key ≡ key → OthersStay key xs (xs ++ live ∷ [])
+made_others xs live key same = λ other apart. others_push xs other live (subst (λ (k : Key). is_key k other ≡ false) (sym same) (flipped other key apart))
+
+-- what holds of both holds of either
+pub of_either : (P : List Live → Type 0) (b : Bool) (xs ys : List Live) → P ys → P xs → P (if b then ys else xs)
+of_either P true xs ys p q = p
+of_either P false xs ys p q = q
+
+-- the place wasn't found, so nobody is live under the key
+pub nobody_at : (xs ys : List Live) (group name : List ℕ) (call : Call) (place : Option ℕ) → ys ≡ xs → group ≡ group_in call → name ≡ name_in_call call
+    → place ≡ position (λ (i : Live). is_key i.key (key_in group name)) ys → place ≡ None → consumer_in xs (key_of call) ≡ None
+nobody_at xs ys group name call place same group_is name_is found none =
+    let at : position (λ (i : Live). is_key i.key (key_in group name)) ys ≡ None = sym found ∙ none in
+    missing xs (key_of call) (subst (λ (l : List Live). position (λ (i : Live). is_key i.key (key_of call)) l ≡ None) same
+    (subst (λ (n : List ℕ). position (λ (i : Live). is_key i.key (key_in (group_in call) n)) ys ≡ None) name_is (subst (λ (g : List ℕ). position (λ (i : Live). is_key i.key (key_in g name)) ys ≡ None) group_is at)))
+
+-- the outcome has no event
+pub eventless_calls : (advertise : List ℕ) (key : Key) (now round : ℕ) (act : Act) (tells plain : Type 0) (before after : Counts) (c : Option Consumer) (a : Log) (events : List CodeEvent) (said : Option CodeReply) (r : CodeReply) (b : Log) (c2 : Option Consumer)
+    → events ≡ [] → said ≡ Some r → CallsSo advertise key now round act tells plain before after c a [] (Some (response_in r)) b c2
+    → CallsSo advertise key now round act tells plain before after c a (map event_of events) (option_map response_in said) b c2
+eventless_calls advertise key now round act tells plain before after c a events said r b c2 none is calls =
+    subst (λ (es : List CodeEvent). CallsSo advertise key now round act tells plain before after c a (map event_of es) (option_map response_in said) b c2) (sym none)
+    (subst (λ (o : Option CodeReply). CallsSo advertise key now round act tells plain before after c a [] (option_map response_in o) b c2) (sym is) calls)

@@ -1,0 +1,9 @@
+pub mod Shelving
+pub mod Calls
+pub mod Creating
+pub mod Steps
+pub mod Joining
+pub mod Producing
+pub mod Turning
+pub mod Looking
+pub mod Naming

@@ -1,0 +1,30 @@
+use Rattle.std.proofs.Common.{◌∙◌, ap, sym, refl, cond, Bool}
+use Rattle.std.specs.Prelude.{option_map, is_none}
+use Rattle.gate_io.specs.Clocks.{Hand, after_read, after_pause}
+use Rattle.model.specs.Entry.Call.{Produce}
+use Rattle.rest_calls.specs.Views.{batch_of}
+use Rattle.rest_calls.specs.Responses.{response_in}
+use Rattle.desk.specs.Shelf.{world_in}
+use Rattle.desk.proofs.Turning.{turned_of, produce_looks}
+use Rattle.desk.proofs.Looking.{looked_none, looked_done}
+use Rattle.desk.proofs.alone.AloneDesk.store.Goals as goal
+
+pub returns-in-Some-clause-answered : goal.returns-in-Some-clause-answered
+returns-in-Some-clause-answered g c = λ told log.
+    let old = c.args.self.now in
+    let new = c.produce-reply.new.self in
+    let steps = c.produce-reply.ensures in
+    let turned = turned_of (Produce c.args.topic.now (batch_of c.args.batch)) old.shard.advertise c.now_ms-now.result 0 (g.L.Link.tells old.shard.link) (g.L.Link.plain old.shard.link) (g.C.Clock.tells c.args.clock.now)
+    (record { world = world_in old.shard.instances.items old.shard.last; log = g.L.Link.log old.shard.link; hand = g.C.Clock.hand c.args.clock.now; counts = g.L.Link.counts old.shard.link })
+    (record { world = world_in new.instances.items new.last; log = g.L.Link.log new.link; hand = g.C.Clock.hand c.now_ms-now.new.self; counts = g.L.Link.counts new.link })
+    c.produce-reply.result c.produce-reply.result.reply steps.steps steps.alone
+    (λ ticks. c.now_ms-now.ensures.moment ticks ∙ ap (λ (h : Hand). h.now) (c.now_ms-now.ensures.hand ticks))
+    (λ ticks. c.now_ms-now.ensures.hand ticks ∙ ap (λ (b : Bool). cond b (after_pause 10 (after_read (g.C.Clock.hand c.args.clock.now))) (after_read (g.C.Clock.hand c.args.clock.now))) (sym (ap is_none c.in-Some.is)))
+    refl (λ x asked none step. produce_looks c.args.topic.now (batch_of c.args.batch) (world_in old.shard.instances.items old.shard.last) (g.L.Link.log old.shard.link) x (g.L.Link.log new.link) (world_in new.instances.items new.last) asked none step) told log in
+    looked_done old.shard.advertise (g.L.Link.plain old.shard.link) (g.L.Link.plain old.shard.link) (g.C.Clock.tells c.args.clock.now) (g.C.Clock.tells c.args.clock.now) (Produce c.args.topic.now (batch_of c.args.batch))
+    (record { world = world_in old.shard.instances.items old.shard.last; log = g.L.Link.log old.shard.link; hand = g.C.Clock.hand c.args.clock.now; counts = g.L.Link.counts old.shard.link })
+    (record { world = world_in old.shard.instances.items old.shard.last; log = g.L.Link.log old.shard.link; hand = g.C.Clock.hand c.args.clock.now; counts = g.L.Link.counts old.shard.link })
+    (record { world = world_in new.instances.items new.last; log = g.L.Link.log new.link; hand = g.C.Clock.hand c.now_ms-now.new.self; counts = g.L.Link.counts new.link })
+    0 (option_map response_in c.produce-reply.result.reply) (response_in c.in-Some.reply) (λ p. p) (λ t. t)
+    (looked_none (g.L.Link.plain old.shard.link) (g.C.Clock.tells c.args.clock.now) (Produce c.args.topic.now (batch_of c.args.batch)) (record { world = world_in old.shard.instances.items old.shard.last; log = g.L.Link.log old.shard.link; hand = g.C.Clock.hand c.args.clock.now; counts = g.L.Link.counts old.shard.link }))
+    turned (ap (option_map response_in) c.in-Some.is)

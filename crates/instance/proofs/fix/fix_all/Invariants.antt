@@ -1,0 +1,19 @@
+use Rattle.std.proofs.Common.{◌≡◌, take, map}
+use Rattle.model.specs.Log.{IsLog}
+use Rattle.model.specs.World.{IsLow}
+use Rattle.broker_link.specs.Fetching.{at_of, edge_view}
+use Rattle.broker_link.specs.Replies.{CountsKept}
+use Rattle.instance.specs.Fixing.{AreFixed}
+use Rattle.instance.specs.Linking.{GoesOn}
+use Rattle.instance.specs.Views.{at_in, place_of}
+use Rattle.instance.proofs.fix.fix_all.Given as goal
+
+abbrev pub invariant-loop-i : goal.invariant-loop-i
+invariant-loop-i g l = record {
+  goes : GoesOn (g.L.Link.tells l.fn.link) (g.L.Link.tells l.link) (g.L.Link.plain l.fn.link) (g.L.Link.plain l.link) (g.L.Link.log l.fn.link) (g.L.Link.log l.link);
+  kept : CountsKept (g.L.Link.counts l.fn.link) (g.L.Link.counts l.link);
+  whose : map at_in l.places.items ≡ map at_of (take l.i l.parts);
+  small : IsLow (map place_of l.places.items);
+  fixed : g.L.Link.tells l.fn.link → IsLog (g.L.Link.log l.fn.link)
+      → AreFixed (edge_view l.reset) (g.L.Link.log l.fn.link) (map at_of (take l.i l.parts)) (take l.i l.known) (map place_of l.places.items) (g.L.Link.log l.link);
+}

@@ -1,0 +1,40 @@
+use Rattle.std.proofs.Common.{ℕ, List, map, ap, sym, subst, ◌∙◌, arith}
+use Rattle.std.specs.List.{All}
+use Rattle.std.proofs.lemmas.List.{length-map}
+use Rattle.model.specs.Log.{Log}
+use Rattle.model.specs.Walk.{Lot}
+use Rattle.model.specs.Events.{at_most}
+use Rattle.broker_link.specs.declared.fetch.Fetched.{Fetched}
+use Rattle.instance.specs.Gathering.{IsHand}
+use Rattle.instance.specs.Lots.{HasOffsets, lots_of}
+use Rattle.instance.specs.Views.{consumer_of, place_of}
+use Rattle.instance.proofs.Looking.{acts_over, acts_failed, is_binary, mid_is}
+use Rattle.instance.proofs.look.look.Goals as goal
+
+pub conclude-requires-clause-offsets : goal.conclude-requires-clause-offsets
+conclude-requires-clause-offsets g c = subst (All HasOffsets) (sym c.as_slice.ensures) c.in-Ok.ensures.offsets
+
+pub returns-in-Ok-clause-acts : goal.returns-in-Ok-clause-acts
+returns-in-Ok-clause-acts g c = λ advertise key.
+    let b : Log = g.L.Link.log c.gather_for.new.link in
+    let lots : List Lot = lots_of c.gather_for.new.consumer.assignment.items c.as_slice.result.now in
+    let kept = c.gather_for.ensures.kept in
+    let set = c.gather_for.ensures.set in
+    acts_over advertise key c.args.now c.args.round c.args.timeout c.args.max_bytes (g.L.Link.tells c.args.link.now) (g.L.Link.tells c.gather_for.new.link) (g.L.Link.plain c.args.link.now) (g.L.Link.plain c.gather_for.new.link)
+    (g.L.Link.counts c.args.link.now) (g.L.Link.counts c.gather_for.new.link) (consumer_of c.args.consumer.now) (g.L.Link.log c.args.link.now) c.gather_for.new.events c.conclude.result b
+    (consumer_of c.gather_for.new.consumer) (consumer_of c.conclude.new.consumer) lots c.at_most-wait.result c.at_most-bound.result
+    (is_binary c.args.consumer.now) c.gather_for.ensures.passes set
+    (mid_is c.args.now c.args.consumer.now c.gather_for.new.consumer set.news kept.settings kept.rotation kept.unsaved kept.last_use set.after)
+    (c.at_most-wait.ensures.value ∙ ap (λ (n : ℕ). at_most n c.args.timeout) c.from.ensures) c.at_most-bound.ensures.value
+    (λ t log. subst (λ (fs : List Fetched). IsHand b (map place_of c.gather_for.new.consumer.assignment.items) (lots_of c.gather_for.new.consumer.assignment.items fs)) (sym c.as_slice.ensures) (c.in-Ok.ensures.hand t log))
+    c.conclude.ensures.over
+
+pub returns-in-Err-clause-acts : goal.returns-in-Err-clause-acts
+returns-in-Err-clause-acts g c = λ advertise key.
+    let kept = c.gather_for.ensures.kept in
+    let set = c.gather_for.ensures.set in
+    acts_failed advertise key c.args.now c.args.round c.args.timeout c.args.max_bytes (g.L.Link.tells c.args.link.now) (g.L.Link.tells c.gather_for.new.link) (g.L.Link.plain c.args.link.now) (g.L.Link.plain c.gather_for.new.link)
+    (g.L.Link.counts c.args.link.now) (g.L.Link.counts c.gather_for.new.link) (consumer_of c.args.consumer.now) (g.L.Link.log c.args.link.now) c.gather_for.new.events c.link_failure.result (g.L.Link.log c.gather_for.new.link)
+    (consumer_of c.gather_for.new.consumer) c.in-Err.e (is_binary c.args.consumer.now) c.gather_for.ensures.passes set
+    (mid_is c.args.now c.args.consumer.now c.gather_for.new.consumer set.news kept.settings kept.rotation kept.unsaved kept.last_use set.after)
+    (omega (arith, c.in-Err.ensures.sent, length-map c.args.consumer.now.assignment.items place_of)) c.in-Err.ensures.cause (λ p t there. c.in-Err.ensures.good p t there) c.link_failure.ensures.says

@@ -1,0 +1,49 @@
+-- How a look ends that its walk ends (Confluent REST Proxy API v2, consumer records).
+use Rattle.std.specs.Prelude.{ℕ, ◌≡◌, ◌⊎◌, ◌++◌, List, [], ◌∷◌, Option, Some}
+use Rattle.model.specs.Walk.{Lot, unwalked, walk, turned}
+use Rattle.model.specs.World.{Consumer}
+use Rattle.model.specs.Entry.{Call, Event, Reply, Turn}
+use Rattle.model.specs.Entry.Event.{Reset, Looked}
+use Rattle.model.specs.Texts.{Response}
+use Rattle.model.specs.Noted.{said_of}
+use Rattle.model.specs.Look.{LookEnds}
+use Rattle.broker_link.specs.Causes.{Counts}
+use Rattle.broker_link.specs.Replies.{CountsKept, IsCountedIf, IsGoodIf}
+use Rattle.instance.specs.declared.event.Event.{Event as CodeEvent}
+use Rattle.instance.specs.declared.event.Event.TheVariants.{Reset as CodeReset, Looked as CodeLooked}
+use Rattle.instance.specs.declared.consumer.Consumer.{Consumer as CodeConsumer}
+use Rattle.instance.specs.Acting.{forms}
+use Rattle.instance.specs.Lots.{rule_of}
+use Rattle.instance.specs.Views.{place_of, said_in}
+use Rattle.instance.specs.declared.event.Outcome.{Outcome}
+use Rattle.rest_codes.specs.declared.response.Reply.TheVariants as reply
+
+-- an event that isn't of another consumer
+abbrev pub own_of : CodeEvent → Event
+own_of (CodeReset place) = Reset (place_of place)
+own_of (CodeLooked round) = Looked round
+
+-- the turn of a look
+abbrev pub turn_of : ℕ → Turn
+turn_of round = record { round = round; forms = forms }
+
+-- The walk over these lots ended the look: what is said, and the consumer after it. No reply of it is a failure.
+pub record IsEnded (round wait bound : ℕ) (c : Consumer) (lots : List Lot) (said : Option Response) (c2 : Consumer) : Type 0 where
+  pub reply : Option Reply
+  pub ends : LookEnds c.last_use (turn_of round) wait c (walk (rule_of bound) unwalked (turned c.rotation lots)) (Looked round ∷ []) reply (Some c2)
+  pub says : (advertise : List ℕ) (call : Call) → said ≡ said_of advertise forms (Some call) reply
+  pub counted : (before after : Counts) → CountsKept before after → IsCountedIf before after reply
+  pub good : IsGoodIf reply
+
+-- The look is over: by want of memory, with nothing moved, or by its walk. `before` are the events so far.
+abbrev pub IsOver : (round wait bound : ℕ) → Consumer → List Lot → List CodeEvent → Outcome → Consumer → Type 0
+IsOver round wait bound c lots before out c2 =
+    ((out.reply ≡ Some reply.Want) × (out.events ≡ before) × (c2 ≡ c))
+    ⊎ (IsEnded round wait bound c lots (said_in out) c2 × (out.events ≡ before ++ CodeLooked round ∷ []))
+
+-- all but the assignment is kept
+pub record IsKept (c d : CodeConsumer) : Type 0 where
+  pub settings : d.settings ≡ c.settings
+  pub rotation : d.rotation ≡ c.rotation
+  pub unsaved : d.unsaved ≡ c.unsaved
+  pub last_use : d.last_use ≡ c.last_use

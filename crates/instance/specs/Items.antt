@@ -1,0 +1,25 @@
+-- The text of a record in a Records reply (Confluent REST Proxy API v2, consumer records in the binary form).
+use Rattle.std.specs.Prelude.{ℕ, ◌++◌, codes, decimal, List, map, Option}
+use Rattle.json.specs.Print.{quoted}
+use Rattle.model.specs.World.Format.{Binary}
+use Rattle.model.specs.Bodies.{showing_text}
+use Rattle.instance.specs.declared.place.Place.{Place}
+use Rattle.instance.specs.Acting.{shows}
+
+-- a key or a value
+unfoldable pub bytes_text : Option (List ℕ) → List ℕ
+bytes_text bytes = showing_text (shows Binary bytes)
+
+-- what a record begins with: its topic, whose name is quoted, its key and its value
+unfoldable pub front_text : (topic : List ℕ) → (key value : Option (List ℕ)) → List ℕ
+front_text topic key value =
+    codes "{\"topic\":" ++ (topic ++ (codes ",\"key\":" ++ (bytes_text key ++ (codes ",\"value\":" ++ bytes_text value))))
+
+-- what it ends with: where it stands
+unfoldable pub place_text : (partition offset : ℕ) → List ℕ
+place_text partition offset =
+    codes ",\"partition\":" ++ (decimal partition ++ (codes ",\"offset\":" ++ (decimal offset ++ codes "}")))
+
+-- the topics of the places
+abbrev pub quoted_topics : List Place → List (List ℕ)
+quoted_topics places = map (λ p. quoted p.topic) places

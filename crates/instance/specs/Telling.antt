@@ -1,0 +1,15 @@
+-- What the calls of a live consumer that ask the link nothing are answered (Confluent REST Proxy API v2, consumers).
+use Rattle.std.specs.Prelude.{⊤, List}
+use Rattle.model.specs.Log.{TopicPart}
+use Rattle.model.specs.Entry.Reply.{Done, Listed, Refused}
+use Rattle.rest_calls.specs.declared.call.Call.{Call}
+use Rattle.rest_calls.specs.declared.call.Call.TheVariants.{Create, Delete, Assignments}
+use Rattle.rest_codes.specs.declared.response.Reply.{Reply}
+use Rattle.instance.specs.Failing.{SaysOrWant}
+
+-- a Create finds the consumer live, a Delete is done, and the assignment is listed
+abbrev pub TellsSo : List TopicPart → Call → Reply → Type 0
+TellsSo ats (Create group name settings) reply = SaysOrWant (Refused 40902) reply
+TellsSo ats (Delete group instance) reply = SaysOrWant Done reply
+TellsSo ats (Assignments group instance) reply = SaysOrWant (Listed ats) reply
+TellsSo ats call reply = ⊤

@@ -1,0 +1,63 @@
+ghost use Rattle.std.specs.Prelude.{◌≡◌, ◌<◌, ◌↔◌, false, All, IfOk, IfErr, IsTrue, List, length, map};
+ghost use Rattle.model.specs.World.{IsInOrder};
+ghost use Rattle.broker_link.specs.Causes.{ComesOf};
+ghost use Rattle.broker_link.specs.declared.link.LinkNo.TheVariants.{Want};
+ghost use Rattle.instance.specs.Gathering.{GotFrom, HaveAll, asked};
+ghost use Rattle.instance.specs.Lots.{HasOffsets};
+ghost use Rattle.instance.specs.Passing.{Passes};
+ghost use Rattle.instance.specs.Views.{place_of};
+
+use crate::Place;
+use broker_link::{FetchFrom, Fetched, Link, LinkNo};
+use gate_io::{Items, Text};
+use std::alloc::{AllocError, Global};
+
+/// As many bytes as one fetch asks for at most.
+const MOST_BYTES: u32 = 1_048_576;
+
+fn ask_from(alloc: Global, place: &Place) -> Result<FetchFrom, AllocError>
+    ensures { IfOk result (λ ask. asked ask ≡ place_of place.now) }
+{
+    let topic = Text::from_str(alloc, place.topic.as_str())?;
+    Ok(FetchFrom {
+        topic,
+        partition: place.partition,
+        offset: place.position,
+    })
+}
+
+fn asks_from(alloc: Global, places: &[Place]) -> Result<Vec<FetchFrom>, AllocError>
+    ensures { IfOk result (λ asks. map asked asks.items ≡ map place_of places.now) }
+{
+    let mut asks = Vec::with_capacity(alloc, places.len())?;
+    for place in places {
+        asks.push(ask_from(alloc, place)?)?;
+    }
+    Ok(asks)
+}
+
+/// All positions were in range.
+pub(crate) fn all_inside(fetched: &[Fetched]) -> bool
+    ensures { IsTrue result ↔ All (λ f. f.out_of_range ≡ false) fetched.now }
+{
+    fetched.iter().all(|f| !f.out_of_range)
+}
+
+/// One fetch of all places from their positions.
+pub(crate) fn fetch_from<L: Link>(
+    alloc: Global,
+    link: &mut L,
+    places: &[Place],
+) -> Result<Items<Fetched>, LinkNo>
+    requires some { 0 < length places.now }
+    requires order { IsInOrder (map place_of places.now) }
+    ensures passes { Passes (L.tells link.old) (L.tells link.new) (L.plain link.old) (L.plain link.new) (L.log link.old) (L.log link.new) (L.counts link.old) (L.counts link.new) }
+    ensures same { IfOk result (λ fetched. length fetched ≡ length places.now) }
+    ensures offsets { IfOk result (All HasOffsets) }
+    ensures got { L.tells link.old → IfOk result (GotFrom (L.log link.new) (map place_of places.now)) }
+    ensures good { L.plain link.old → L.tells link.old → HaveAll (L.log link.old) (map place_of places.now) → IfErr result (λ e. e ≡ Want) }
+    ensures cause { IfErr result (ComesOf (L.counts link.old) (L.counts link.new)) }
+{
+    let asks = asks_from(alloc, places)?;
+    link.fetch(alloc, asks.as_slice(), MOST_BYTES)
+}

@@ -1,0 +1,170 @@
+ghost use Rattle.std.specs.Prelude.{◌≡◌, ◌≢◌, ◌<◌, ◌*◌, ◌^◌, ℕ, List, [], IfOk, None, Some, map};
+ghost use Rattle.model.specs.Log.{Keeps, IsLog};
+ghost use Rattle.model.specs.World.{IsConsumer, fresh, is_key};
+ghost use Rattle.model.specs.World.Mode.{ByTopics};
+ghost use Rattle.model.specs.Entry.{Act};
+ghost use Rattle.model.specs.Entry.Call.{Of};
+ghost use Rattle.model.specs.Fixed.{SameCommits};
+ghost use Rattle.rest_calls.specs.Views.{asked_of, key_in, settings_of};
+ghost use Rattle.instance.specs.Acting.{ActsSo};
+ghost use Rattle.rest_calls.specs.Responses.{response_in};
+ghost use Rattle.instance.specs.Telling.{TellsSo};
+ghost use Rattle.instance.specs.Views.{at_in, events_in, said_in};
+
+use crate::Outcome;
+use crate::assign::assign;
+use crate::consumer::Consumer;
+use crate::failure::refused;
+use crate::listing::listing;
+use crate::look::look;
+use broker_link::Link;
+use gate_io::{Items, Text, Want};
+use rest_calls::{Call, Settings};
+use rest_codes::Reply;
+use std::alloc::{AllocError, Global};
+use std::marker::Model;
+
+/// A live consumer instance of a group.
+#[derive(Debug, Drop)]
+pub struct Instance {
+    group: Text,
+    name: Text,
+    consumer: Consumer,
+}
+
+impl Model for Instance {
+    ghost use Rattle.instance.specs.Views.{IsSound, Live, consumer_of};
+
+    ghost Value = { Live };
+
+    ghost view = { λ i. record { key = record { group = i.group; instance = i.name }; consumer = consumer_of i.consumer } };
+
+    ghost invariant = { λ i. IsSound i.consumer };
+}
+
+/// The outcome of a call that has no event.
+fn answered(alloc: Global, reply: Reply) -> Outcome
+    ensures events { events_in result ≡ [] }
+    ensures said { said_in result ≡ Some (response_in reply) }
+    ensures some { result.reply ≡ Some reply }
+{
+    Outcome {
+        events: Items::new(alloc),
+        reply: Some(reply),
+    }
+}
+
+/// The reply to a call that asks the link nothing.
+fn told(alloc: Global, consumer: &Consumer, call: &Call) -> Reply
+    ensures says { TellsSo (map at_in consumer.now.assignment.items) call.now result }
+{
+    match call {
+        Call::Create { .. } => refused(alloc, 40902),
+        Call::Delete { .. } => Reply::Empty,
+        Call::Assignments { .. } => listing(alloc, consumer.assignment.as_slice()),
+        _ => Reply::Want,
+    }
+}
+
+impl Instance {
+    /// A new instance, with nothing assigned.
+    pub fn new(
+        alloc: Global,
+        group: &str,
+        instance: &str,
+        settings: &Settings,
+        now: u64,
+    ) -> Result<Instance, Want>
+        ensures key { IfOk result (λ i. i.key ≡ key_in group.now instance.now) }
+        ensures consumer { IfOk result (λ i. i.consumer ≡ fresh (settings_of settings.now) now) }
+    {
+        let Ok(group) = Text::from_str(alloc, group) else {
+            return Err(Want);
+        };
+        let Ok(name) = Text::from_str(alloc, instance) else {
+            return Err(Want);
+        };
+        let consumer = Consumer {
+            settings: *settings,
+            assignment: Vec::new(alloc),
+            rotation: 0,
+            unsaved: false,
+            last_use: now,
+        };
+        Ok(Instance {
+            group,
+            name,
+            consumer,
+        })
+    }
+
+    /// The moment of last use.
+    pub fn last_use(&self) -> u64
+        ensures value { result ≡ self.now.consumer.last_use }
+        ensures sound { IsConsumer self.now.consumer }
+    {
+        self.consumer.last_use
+    }
+
+    /// It is the instance of that name in that group.
+    pub fn is_of(&self, group: &str, instance: &str) -> bool
+        ensures { result ≡ is_key self.now.key (key_in group.now instance.now) }
+    {
+        self.group.as_str() == group && self.name.as_str() == instance
+    }
+
+    /// Does a call of this instance. `round` counts the looks that the call had before.
+    pub fn act<L: Link>(
+        &mut self,
+        alloc: Global,
+        link: &mut L,
+        now: u64,
+        round: u32,
+        call: &Call,
+    ) -> Outcome
+        requires whose { (act : Act) × (asked_of call.now ≡ Of self.old.key act) }
+        ensures acts { (advertise : List ℕ) (act : Act) → asked_of call.now ≡ Of self.old.key act
+            → ActsSo advertise self.old.key now round act (L.tells link.old) (L.plain link.old) (L.counts link.old) (L.counts link.new) self.old.consumer (L.log link.old) (events_in result) (said_in result) (L.log link.new) self.new.consumer }
+        ensures key { self.new.key ≡ self.old.key }
+        ensures unsubscribed { self.old.consumer.mode ≢ ByTopics }
+        ensures waits { result.reply ≡ None → 10 * round < 2 ^ 32 }
+        ensures sound { IsConsumer self.new.consumer }
+
+        ensures telling { L.tells link.old → L.tells link.new }
+        ensures keeps { L.tells link.old → Keeps (L.log link.old) (L.log link.new) × SameCommits (L.log link.old) (L.log link.new) }
+        ensures is_log { L.tells link.old → IsLog (L.log link.old) → IsLog (L.log link.new) }
+        ensures plainly { L.plain link.old → L.plain link.new }
+        ensures alone { L.plain link.old → (L.log link.new).others ≡ (L.log link.old).others }
+    {
+        match call {
+            Call::Records {
+                timeout,
+                max_bytes,
+                ..
+            } => look(
+                &mut self.consumer,
+                alloc,
+                link,
+                now,
+                round,
+                *timeout,
+                *max_bytes,
+            ),
+            Call::Assign { parts, .. } => answered(
+                alloc,
+                assign(
+                    &mut self.consumer,
+                    alloc,
+                    link,
+                    now,
+                    self.group.as_str(),
+                    parts.as_slice(),
+                ),
+            ),
+            other => {
+                self.consumer.last_use = now;
+                answered(alloc, told(alloc, &self.consumer, other))
+            }
+        }
+    }
+}

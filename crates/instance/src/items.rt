@@ -1,0 +1,140 @@
+ghost use Rattle.std.specs.Prelude.{◌≡◌, ◌++◌, ◌<◌, ◌^◌, List, [], cond, codes, length, map, nat_abs, string_bytes, All, IfOk, OnOk};
+ghost use Rattle.json.specs.Print.{quoted};
+ghost use Rattle.model.specs.Bodies.{array, item_text};
+ghost use Rattle.model.specs.World.Format.{Binary};
+ghost use Rattle.instance.specs.Acting.{forms};
+ghost use Rattle.instance.specs.Items.{bytes_text, front_text, place_text, quoted_topics};
+ghost use Rattle.instance.specs.Lots.{HasRow, IsPick, item_in, lots_of, seen, stored_in};
+
+use crate::Place;
+use crate::walk::{Lots, Pick, Walk};
+use base64::engine::general_purpose::STANDARD;
+use broker_link::{Fetched, Stored};
+use gate_io::{Items, Text};
+use itoa::Buffer;
+use serde_json::Value;
+use std::alloc::{AllocError, Global};
+
+/// Room for what is written of a row besides its topic, its key and its value.
+const ROW_ROOM: usize = 96;
+
+/// The record that a pick names.
+pub(crate) fn stored_at<'a>(fetched: &'a [Fetched], pick: Pick) -> &'a Stored
+    requires { HasRow fetched.now pick }
+    ensures { result.now ≡ stored_in fetched.now pick }
+{
+    &fetched[pick.lot].rows.as_slice()[pick.row]
+}
+
+fn quoted_text(alloc: Global, text: &str) -> Result<Text, AllocError>
+    ensures { IfOk result (λ t. t ≡ quoted text.now) }
+{
+    let value = Value::try_from_str(alloc, text)?;
+    let quoted = value.to_string(alloc)?;
+    Ok(Text::from_string(quoted))
+}
+
+fn quoted_topics(alloc: Global, places: &[Place]) -> Result<Vec<Text>, AllocError>
+    ensures { IfOk result (λ topics. topics.items ≡ quoted_topics places.now) }
+{
+    let mut topics = Vec::with_capacity(alloc, places.len())?;
+    for place in places {
+        topics.push(quoted_text(alloc, place.topic.as_str())?)?;
+    }
+    Ok(topics)
+}
+
+#[tactic(auto, unfolding(crate::specs::Items::bytes_text))]
+fn put_bytes(text: &mut String, bytes: &Option<Items<u8>>) -> Result<(), AllocError>
+    ensures { OnOk result (string_bytes text.new ≡ string_bytes text.old ++ bytes_text bytes.now) }
+{
+    match bytes {
+        None => text.push_str("null"),
+        Some(bytes) => {
+            text.push_str("\"")?;
+            STANDARD.encode_string(bytes.as_slice(), text)?;
+            text.push_str("\"")
+        }
+    }
+}
+
+#[tactic(auto, unfolding(crate::specs::Items::front_text))]
+fn put_front(text: &mut String, topic: &str, stored: &Stored) -> Result<(), AllocError>
+    ensures { OnOk result (string_bytes text.new ≡ string_bytes text.old ++ front_text topic.now stored.now.key stored.now.value) }
+{
+    text.push_str("{\"topic\":")?;
+    text.push_str(topic)?;
+    text.push_str(",\"key\":")?;
+    put_bytes(text, &stored.key)?;
+    text.push_str(",\"value\":")?;
+    put_bytes(text, &stored.value)
+}
+
+#[tactic(auto, unfolding(crate::specs::Items::place_text))]
+fn put_place(text: &mut String, partition: u32, offset: u64) -> Result<(), AllocError>
+    ensures { OnOk result (string_bytes text.new ≡ string_bytes text.old ++ place_text partition offset) }
+{
+    let mut digits = Buffer::new();
+    text.push_str(",\"partition\":")?;
+    text.push_str(digits.format(partition))?;
+    text.push_str(",\"offset\":")?;
+    text.push_str(digits.format(offset))?;
+    text.push_str("}")?;
+    Ok(())
+}
+
+fn put_row(
+    text: &mut String,
+    topic: &str,
+    partition: i32,
+    stored: &Stored,
+) -> Result<(), AllocError>
+    ensures { OnOk result (string_bytes text.new ≡ string_bytes text.old
+        ++ (front_text topic.now stored.now.key stored.now.value ++ place_text (nat_abs partition) (nat_abs stored.now.offset))) }
+{
+    put_front(text, topic, stored)?;
+    put_place(text, partition.unsigned_abs(), stored.offset.unsigned_abs())
+}
+
+fn put_item(text: &mut String, topics: &[Text], lots: &Lots, pick: Pick) -> Result<(), AllocError>
+    requires topics { topics.now ≡ quoted_topics lots.now.places.now }
+    requires pick { IsPick (lots_of lots.now.places.now lots.now.fetched.now) pick }
+    requires lot { (pick.lot < length lots.now.places.now) × (pick.lot < length topics.now) }
+    requires row { HasRow lots.now.fetched.now pick }
+    ensures { OnOk result (string_bytes text.new ≡ string_bytes text.old ++ item_text forms Binary (item_in (lots_of lots.now.places.now lots.now.fetched.now) pick)) }
+{
+    let partition = lots.places[pick.lot].partition;
+    let topic = topics[pick.lot].as_str();
+    put_row(text, topic, partition, stored_at(lots.fetched, pick))
+}
+
+fn put_comma(text: &mut String, first: bool) -> Result<(), AllocError>
+    ensures { OnOk result (string_bytes text.new ≡ string_bytes text.old ++ cond first [] (codes ",")) }
+{
+    if !first {
+        text.push_str(",")?;
+    }
+    Ok(())
+}
+
+/// Room for so many rows of so many key and value bytes.
+fn room_for(count: usize, bytes: u64) -> usize {
+    let shown = (bytes / 3).saturating_mul(4) as usize;
+    count.saturating_mul(ROW_ROOM).saturating_add(shown)
+}
+
+/// The rows that were taken, as a JSON array.
+pub(crate) fn shown_text(alloc: Global, lots: &Lots, walk: &Walk) -> Result<String, AllocError>
+    requires picks { All (IsPick (lots_of lots.now.places.now lots.now.fetched.now)) walk.now.picks.items }
+    ensures { IfOk result (λ s. string_bytes s ≡ array (map (item_text forms Binary) (seen (lots_of lots.now.places.now lots.now.fetched.now) walk.now).taken)) }
+{
+    let topics = quoted_topics(alloc, lots.places)?;
+    let mut text = String::with_capacity(alloc, room_for(walk.picks.len(), walk.bytes))?;
+    text.push_str("[")?;
+    for (i, pick) in walk.picks.iter().enumerate() {
+        put_comma(&mut text, i == 0)?;
+        put_item(&mut text, topics.as_slice(), lots, *pick)?;
+    }
+    text.push_str("]")?;
+    Ok(text)
+}

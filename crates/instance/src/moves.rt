@@ -1,0 +1,65 @@
+ghost use Rattle.std.specs.Prelude.{◌≡◌, ◌+◌, ◌<◌, ◌≤ℤ◌, pos, nat_abs, All, length, map};
+ghost use Rattle.model.specs.Events.{moved};
+ghost use Rattle.model.specs.World.{IsApart, IsLow, moved_places};
+ghost use Rattle.instance.specs.Lots.{HasOffsets, IsOffset, IsPick, item_in, lots_of, put_at};
+ghost use Rattle.instance.specs.Views.{IsSound, consumer_of, place_of};
+
+use crate::Place;
+use crate::consumer::Consumer;
+use crate::items::stored_at;
+use crate::walk::Pick;
+use broker_link::{Fetched, Stored};
+
+/// The offset behind a record's.
+fn behind(stored: &Stored) -> i64
+    requires { IsOffset stored.now }
+    ensures low { pos 0 ≤ℤ result }
+    ensures value { nat_abs result ≡ nat_abs stored.now.offset + 1 }
+{
+    stored.offset + 1
+}
+
+/// Sets the position of a place in the list.
+pub(crate) fn put_position(assignment: &mut [Place], place: usize, position: i64)
+    requires place { place < length assignment.old }
+    requires low { pos 0 ≤ℤ position }
+    ensures places { map place_of assignment.new ≡ put_at (map place_of assignment.old) place (nat_abs position) }
+    ensures low { IsLow (map place_of assignment.old) → IsLow (map place_of assignment.new) }
+{
+    assignment[place].position = position;
+}
+
+/// Moves each position behind the last of its rows that was taken.
+fn advance(assignment: &mut [Place], fetched: &[Fetched], picks: &[Pick])
+    requires same { length fetched.now ≡ length assignment.old }
+    requires apart { IsApart (map place_of assignment.old) }
+    requires picks { All (IsPick (lots_of assignment.old fetched.now)) picks.now }
+    requires offsets { All HasOffsets fetched.now }
+    ensures places { map place_of assignment.new ≡ moved_places (map (item_in (lots_of assignment.old fetched.now)) picks.now) (map place_of assignment.old) }
+    ensures low { IsLow (map place_of assignment.old) → IsLow (map place_of assignment.new) }
+{
+    for pick in picks {
+        let next = behind(stored_at(fetched, *pick));
+        put_position(assignment, pick.lot, next);
+    }
+}
+
+impl Consumer {
+    /// Moves the positions, the rotation place and the mark behind the rows that were taken.
+    pub fn move_behind(&mut self, fetched: &[Fetched], picks: &[Pick])
+        requires sound { IsSound self.old }
+        requires same { length fetched.now ≡ length self.old.assignment.items }
+        requires picks { All (IsPick (lots_of self.old.assignment.items fetched.now)) picks.now }
+        requires offsets { All HasOffsets fetched.now }
+        ensures moved { consumer_of self.new ≡ moved (map (item_in (lots_of self.old.assignment.items fetched.now)) picks.now) (consumer_of self.old) }
+        ensures sound { IsSound self.new }
+    {
+        let count = picks.len();
+        if count == 0 {
+            return;
+        }
+        advance(&mut self.assignment, fetched, picks);
+        self.rotation = (picks[count - 1].lot + 1) % self.assignment.len();
+        self.unsaved = true;
+    }
+}
