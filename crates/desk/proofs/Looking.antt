@@ -1,7 +1,8 @@
 -- Entries one after another, and the looks of one call.
-use Rattle.std.proofs.Common.{◌≡◌, ℕ, ◌+◌, List, [], ◌∷◌, ◌++◌, refl, ap, sym, ◌∙◌, subst, arith, Option, Some, None}
+use Rattle.std.proofs.Common.{◌≡◌, ℕ, ◌+◌, ◌≤◌, List, [], ◌∷◌, ◌++◌, refl, ap, sym, ◌∙◌, subst, arith, Option, Some, None}
 use Rattle.std.proofs.lemmas.List.Elements.{All-nil, All-append}
 use Rattle.gate_io.specs.Clocks.{Hand}
+use Rattle.gate_io.specs.Counts.{Rose}
 use Rattle.model.specs.Log.{Log}
 use Rattle.model.specs.World.{World}
 use Rattle.model.specs.Entry.{Call, Entry, Reply}
@@ -11,7 +12,7 @@ use Rattle.model.specs.Noted.{IsTable, said_of}
 use Rattle.model.specs.Texts.{Response, response_of}
 use Rattle.model.proofs.Stretches.{run_after}
 use Rattle.broker_link.specs.Causes.{Counts}
-use Rattle.broker_link.specs.Replies.{CountsKept, IsGoodIf}
+use Rattle.broker_link.specs.Replies.{CountsKept, IsCounted, IsCountedIf, IsGoodIf}
 use Rattle.instance.specs.Acting.{shown}
 use Rattle.desk.specs.Stepping.{AreLow, never}
 use Rattle.desk.specs.Clocked.{IsClocked, after_turn}
@@ -39,6 +40,22 @@ pays_on c d e n m kept h k = record {
 
 low_before : (d e : Counts) → CountsKept d e → AreLow e → AreLow d
 low_before d e kept low = record { faults_low = (let x = kept.faults_kept in let y = low.faults_low in omega (arith, x, y)); refusals_low = (let x = kept.refusals_kept in let y = low.refusals_low in omega (arith, x, y)) }
+
+rose_on : (a b c : ℕ) → a ≤ b → Rose b c → Rose a c
+rose_on a b c le rose = omega (arith, le, rose)
+
+-- what was counted in the last of several steps was counted in all of them
+counted_on : (c d e : Counts) (reply : Reply) → CountsKept c d → IsCounted d e reply → IsCounted c e reply
+counted_on c d e reply kept counted = record {
+  faults_kept = omega (arith, kept.faults_kept, counted.faults_kept);
+  refusals_kept = omega (arith, kept.refusals_kept, counted.refusals_kept);
+  sent_kept = omega (arith, kept.sent_kept, counted.sent_kept);
+  polls_kept = omega (arith, kept.polls_kept, counted.polls_kept);
+  beats_kept = omega (arith, kept.beats_kept, counted.beats_kept);
+  fault = λ is. rose_on c.faults d.faults e.faults kept.faults_kept (counted.fault is);
+  refusal = λ is. rose_on c.refusals d.refusals e.refusals kept.refusals_kept (counted.refusal is);
+  code = counted.code;
+}
 
 -- some entries and then some more
 pub runs_on : (plain plain2 ticks ticks2 : Type 0) (s m t : State) (xs ys : List Entry) → (plain → plain2) → (ticks → ticks2) → Runs plain ticks s xs m → Runs plain2 ticks2 m ys t → Runs plain ticks s (xs ++ ys) t
@@ -119,4 +136,5 @@ looked_done advertise plain plain2 ticks ticks2 call s m t round said r still ti
       answer = answered.0;
       serves = record { waits = so_far.own; round = round; waited = so_far.waits; last = turn.entry; whole = refl; call_is = turn.call_is; reply_is = answered.1; round_is = turn.round_is };
       says = answered.2;
+      counted = counted_on s.counts m.counts t.counts answered.0 (let h = so_far.runs in h.kept) (subst (IsCountedIf m.counts t.counts) answered.1 turn.counted);
     }

@@ -160,6 +160,7 @@ turned_of asked advertise now round tells plain ticks s t e said steps alone rea
       round_is = one.round_is;
       says = ap (option_map response_in) says ∙ (reply_is ∙ ap (λ (c : Option Call). said_of advertise (let x = entry.turn in x.forms) c entry.reply) one.call_is);
       looks = λ none. subst (λ (k : ℕ). EndsIn entry.events k) one.round_is (ends entry one.call_is none one.step);
+      counted = subst (IsCountedIf s.counts t.counts) (sym one.reply_is) steps.counted;
     }
 
 -- a produce has its reply

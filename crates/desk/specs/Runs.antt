@@ -11,7 +11,7 @@ use Rattle.model.specs.Served.{EndsIn, Serves}
 use Rattle.model.specs.Noted.{IsTable, said_of}
 use Rattle.model.specs.Texts.{Response, response_of}
 use Rattle.broker_link.specs.Causes.{Counts}
-use Rattle.broker_link.specs.Replies.{CountsKept, IsGoodIf}
+use Rattle.broker_link.specs.Replies.{CountsKept, IsCounted, IsCountedIf, IsGoodIf}
 use Rattle.rest_calls.specs.Views.{counted, given_name, is_unnamed, key_in}
 use Rattle.rest_codes.specs.declared.response.Reply.{Reply as CodeReply}
 use Rattle.rest_codes.specs.declared.response.Reply.TheVariants as reply
@@ -62,13 +62,15 @@ named_so name call = call
 abbrev pub named_after : Call → ℕ → ℕ
 named_after asked unnamed = cond (is_unnamed asked) (counted unnamed) unnamed
 
--- A call was answered: by its looks without reply and the entry with the reply, of which this is the text.
+-- A call was answered: by its looks without reply and the entry with the reply, of which this is the text. A fault or a
+-- refusal is its answer only where the link counted one meanwhile, and a broker's code is the link's last.
 pub record IsAnswered (advertise : List ℕ) (plain ticks : Type 0) (call : Call) (s : State) (said : Response) (t : State) : Type 0 where
   pub own : List Entry
   pub runs : Runs plain ticks s own t
   pub answer : Reply
   pub serves : Serves call answer own
   pub says : said ≡ response_of advertise (let e = serves.last in let x = e.turn in x.forms) call answer
+  pub counted : IsCounted s.counts t.counts answer
 
 -- One turn was taken for a call: one entry, and the text of its reply, if it has one. One without reply ends in its look.
 pub record IsTurn (advertise : List ℕ) (plain ticks : Type 0) (call : Call) (round : ℕ) (s : State) (said : Option Response) (t : State) : Type 0 where
@@ -78,6 +80,7 @@ pub record IsTurn (advertise : List ℕ) (plain ticks : Type 0) (call : Call) (r
   pub round_is : entry.turn.round ≡ round
   pub says : said ≡ said_of advertise (let x = entry.turn in x.forms) (Some call) entry.reply
   pub looks : entry.reply ≡ None → EndsIn entry.events round
+  pub counted : IsCountedIf s.counts t.counts entry.reply
 
 -- memory was wanting before the first turn: nothing was done
 pub record Stays {S C : Type 0} (said : CodeReply) (shard shard2 : S) (clock clock2 : C) : Type 0 where

@@ -6,8 +6,7 @@ use Rattle.model.specs.Entry.{Call, Entry, Reply}
 use Rattle.model.specs.Step.{Step, left}
 use Rattle.model.specs.Legal.{call_tally, no_tally}
 use Rattle.model.specs.Causes.{IsCaused, IsTimed}
-use Rattle.model.specs.Nodes.{Heard}
-use Rattle.model.specs.Noted.{Noted, noted_of, said_of, IsTable, Stepped}
+use Rattle.model.specs.Noted.{Noted, noted_of, said_of, IsTable}
 use Rattle.broker_link.specs.Causes.{Counts}
 use Rattle.broker_link.specs.Replies.{IsCountedIf, IsGoodIf}
 use Rattle.rest_calls.specs.Responses.{response_in}
@@ -28,10 +27,6 @@ never = 2 ^ 64
 pub record AreLow (c : Counts) : Type 0 where
   pub faults_low : c.faults < 2 ^ 64 - 1
   pub refusals_low : c.refusals < 2 ^ 64 - 1
-
--- no call of this stage asks for nodes
-abbrev pub nothing_heard : Heard
-nothing_heard = record { nodes = []; parts = [] }
 
 -- The entry is one of the model's, and its step leads from a world and log to a world and log.
 pub record Steps (advertise : List ℕ) (caller now round : ℕ) (call : Call) (before after : Counts) (w : World) (a : Log) (noted : Noted) (reply : Option Reply) (b : Log) (w2 : World) : Type 0 where
@@ -56,10 +51,3 @@ pub record StepsSo (advertise : List ℕ) (caller now round : ℕ) (call : Call)
   pub steps : tells → IsLog a → Steps advertise caller now round call before after w a noted reply b w2
   pub there : tells → IsLog a → AllThere a w → AllThere b w2
   pub good : plain → tells → IsLog a → AllThere a w → IsGoodIf reply
-
--- a step is what the model asks of one
-abbrev pub StepsAreStepped : Type 0
-StepsAreStepped =
-    (advertise : List ℕ) (caller now round : ℕ) (call : Call) (before after : Counts) (w : World) (a : Log) (noted : Noted) (reply : Option Reply) (b : Log) (w2 : World) (table : List (List ℕ))
-    → Steps advertise caller now round call before after w a noted reply b w2 → AreLow after
-    → Stepped never advertise shown table caller now round (Some call) (totals before) (totals after) after.last_code [] nothing_heard w a noted b w2

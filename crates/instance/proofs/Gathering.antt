@@ -39,6 +39,13 @@ before_is_other x y before = go (is_at x y) refl
     go true e = absurd (let itself : is_before x x ≡ true = ap (is_before x) (same_from_is_at x y e) ∙ before in cc (itself, not_before_itself x))
     go false e = e
 
+pub after_is_other : (x y : TopicPart) → is_before x y ≡ true → is_at y x ≡ false
+after_is_other x y before = go (is_at y x) refl
+  where
+    go : (b : Bool) → is_at y x ≡ b → is_at y x ≡ false
+    go true e = absurd (let itself : is_before x x ≡ true = ap (is_before x) (sym (same_from_is_at y x e)) ∙ before in cc (itself, not_before_itself x))
+    go false e = e
+
 -- what holds of the places asked from holds of the asks
 of_asks : (P : TopicPart → Type 0) (asks : List FetchFrom) (places : List Place) → map asked asks ≡ places → All (λ place. P place.at) places → All (λ ask. P (ask_at ask)) asks
 of_asks P asks places are all = λ k d lt.

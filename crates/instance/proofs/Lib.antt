@@ -7,6 +7,7 @@ pub mod Fixing
 pub mod Assigning
 pub mod Wanting
 pub mod Texts
+pub mod Turning
 pub mod Telling
 pub mod Walking
 pub mod Picking

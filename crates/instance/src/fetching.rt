@@ -1,4 +1,5 @@
-ghost use Rattle.std.specs.Prelude.{◌≡◌, ◌<◌, ◌↔◌, false, All, IfOk, IfErr, IsTrue, List, length, map};
+ghost use Rattle.std.specs.Prelude.{◌≡◌, ◌<◌, ◌≤◌, ◌^◌, ◌-◌, ◌↔◌, false, All, IfOk, IfErr, IsTrue, List, length, map};
+ghost use Rattle.model.specs.Walk.{turned};
 ghost use Rattle.model.specs.World.{IsInOrder};
 ghost use Rattle.broker_link.specs.Causes.{ComesOf};
 ghost use Rattle.broker_link.specs.declared.link.LinkNo.TheVariants.{Want};
@@ -36,6 +37,39 @@ fn asks_from(alloc: Global, places: &[Place]) -> Result<Vec<FetchFrom>, AllocErr
     Ok(asks)
 }
 
+/// As many bytes as a fetch for a reply of so many bytes asks for at most: twice as many, so that
+/// a row that doesn't fit into the reply any more comes as well.
+pub(crate) fn bytes_for(bound: u64) -> u32
+    ensures { result < 2 ^ 31 }
+{
+    if bound < u64::from(MOST_BYTES / 2) {
+        2 * bound as u32
+    } else {
+        MOST_BYTES
+    }
+}
+
+/// The list, in the order in which its last `count` come first.
+fn turned_back(
+    alloc: Global,
+    mut fetched: Items<Fetched>,
+    count: usize,
+) -> Result<Items<Fetched>, AllocError>
+    requires { count ≤ length fetched }
+    ensures { IfOk result (λ back. back ≡ turned (length fetched - count) fetched) }
+{
+    let mut last = Vec::with_capacity(alloc, fetched.len())?;
+    for _ in 0..count {
+        if let Some(f) = fetched.pop() {
+            last.push(f)?;
+        }
+    }
+    last.reverse();
+    let mut back = Items::from_vec(last);
+    back.append(fetched)?;
+    Ok(back)
+}
+
 /// All positions were in range.
 pub(crate) fn all_inside(fetched: &[Fetched]) -> bool
     ensures { IsTrue result ↔ All (λ f. f.out_of_range ≡ false) fetched.now }
@@ -43,13 +77,18 @@ pub(crate) fn all_inside(fetched: &[Fetched]) -> bool
     fetched.iter().all(|f| !f.out_of_range)
 }
 
-/// One fetch of all places from their positions.
+/// One fetch of all places from their positions. It asks for that of number `first` before those
+/// behind it, and for those before it last, so that few bytes go to each in turn.
 pub(crate) fn fetch_from<L: Link>(
     alloc: Global,
     link: &mut L,
     places: &[Place],
+    first: usize,
+    most: u32,
 ) -> Result<Items<Fetched>, LinkNo>
     requires some { 0 < length places.now }
+    requires first { first ≤ length places.now }
+    requires few { most < 2 ^ 31 }
     requires order { IsInOrder (map place_of places.now) }
     ensures passes { Passes (L.tells link.old) (L.tells link.new) (L.plain link.old) (L.plain link.new) (L.log link.old) (L.log link.new) (L.counts link.old) (L.counts link.new) }
     ensures same { IfOk result (λ fetched. length fetched ≡ length places.now) }
@@ -58,6 +97,11 @@ pub(crate) fn fetch_from<L: Link>(
     ensures good { L.plain link.old → L.tells link.old → HaveAll (L.log link.old) (map place_of places.now) → IfErr result (λ e. e ≡ Want) }
     ensures cause { IfErr result (ComesOf (L.counts link.old) (L.counts link.new)) }
 {
-    let asks = asks_from(alloc, places)?;
-    link.fetch(alloc, asks.as_slice(), MOST_BYTES)
+    let mut asks = asks_from(alloc, places)?;
+    asks.rotate_left(first);
+    let fetched = match link.fetch(alloc, asks.as_slice(), most) {
+        Ok(fetched) => fetched,
+        Err(e) => return Err(e),
+    };
+    Ok(turned_back(alloc, fetched, first)?)
 }

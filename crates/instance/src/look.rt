@@ -21,7 +21,7 @@ ghost use Rattle.instance.specs.Views.{IsSound, consumer_of, events_in, place_of
 
 use crate::consumer::Consumer;
 use crate::failure::link_failure;
-use crate::fetching::{all_inside, fetch_from};
+use crate::fetching::{all_inside, bytes_for, fetch_from};
 use crate::items::shown_text;
 use crate::resets::set_back;
 use crate::walk::{Lots, Walk, go_round};
@@ -39,10 +39,14 @@ fn gather<L: Link>(
     alloc: Global,
     link: &mut L,
     places: &mut [Place],
+    first: usize,
+    most: u32,
     edge: Edge,
     events: &mut Items<Event>,
 ) -> Result<Items<Fetched>, LinkNo>
     requires order { IsInOrder (map place_of places.old) }
+    requires first { first ≤ length places.old }
+    requires few { most < 2 ^ 31 }
     requires none { events.old ≡ [] }
     ensures passes { Passes (L.tells link.old) (L.tells link.new) (L.plain link.old) (L.plain link.new) (L.log link.old) (L.log link.new) (L.counts link.old) (L.counts link.new) }
     ensures set { SetsBack (L.tells link.old) (edge_view edge) (L.log link.old) (map place_of places.old) events.new (L.log link.new) (map place_of places.new) }
@@ -57,7 +61,7 @@ fn gather<L: Link>(
     if places.is_empty() {
         return Ok(Items::new(alloc));
     }
-    let fetched = match fetch_from(alloc, link, places) {
+    let fetched = match fetch_from(alloc, link, places, first, most) {
         Ok(fetched) => fetched,
         Err(e) => return Err(e),
     };
@@ -68,7 +72,7 @@ fn gather<L: Link>(
         Ok(news) => *events = news,
         Err(e) => return Err(e),
     }
-    fetch_from(alloc, link, places)
+    fetch_from(alloc, link, places, first, most)
 }
 
 /// The rows that the walk takes of what was fetched.
@@ -171,11 +175,12 @@ fn conclude(
     }
 }
 
-/// Fetches for a consumer.
+/// Fetches for a consumer's reply of so many bytes at most, and first where its walk begins.
 fn gather_for<L: Link>(
     consumer: &mut Consumer,
     alloc: Global,
     link: &mut L,
+    bound: u64,
     events: &mut Items<Event>,
 ) -> Result<Items<Fetched>, LinkNo>
     requires sound { IsSound consumer.old }
@@ -191,8 +196,18 @@ fn gather_for<L: Link>(
     ensures good { L.plain link.old → L.tells link.old → HaveAll (L.log link.old) (map place_of consumer.old.assignment.items) → IfErr result (λ e. e ≡ Want) }
     ensures cause { IfErr result (ComesOf (L.counts link.old) (L.counts link.new)) }
 {
+    let first = consumer.rotation;
     let edge = consumer.settings.reset;
-    gather(alloc, link, &mut consumer.assignment, edge, events)
+    let most = bytes_for(bound);
+    gather(
+        alloc,
+        link,
+        &mut consumer.assignment,
+        first,
+        most,
+        edge,
+        events,
+    )
 }
 
 /// The smaller of a limit and what the query asks, if it asks.
@@ -232,7 +247,7 @@ pub(crate) fn look<L: Link>(
     let wait = at_most(u64::from(consumer.settings.timeout_ms), timeout);
     let bound = at_most(MOST_SHOWN, max_bytes);
     let mut events = Items::new(alloc);
-    match gather_for(consumer, alloc, link, &mut events) {
+    match gather_for(consumer, alloc, link, bound, &mut events) {
         Ok(fetched) => conclude(
             consumer,
             alloc,

@@ -5,7 +5,7 @@ use Rattle.std.specs.List.{filter, count_by}
 use Rattle.std.proofs.lemmas.List.Elements.{All-contains, Contains-append_left}
 use Rattle.model.specs.Log.{TopicPart, is_at, Row, Rises, Log, Keeps, part_at, from, rows_between}
 use Rattle.model.specs.Walk.{Item, rows_at}
-use Rattle.model.specs.World.{Key, World, nobody, position_of}
+use Rattle.model.specs.World.{Key, World, position_of}
 use Rattle.model.specs.Entry.{Given, Entry, Payload, IsLinks, is_zero, shown_to}
 use Rattle.model.specs.Entry.Call.{Produce}
 use Rattle.model.specs.Entry.Placed.{Stored, Failed}
@@ -192,11 +192,11 @@ stored_anew idle w a e b w2 at row step stored = go step.does
         ends does.1
     go (inr starved) = absurd (cc (stored.reply, starved.reply))
 
-pub stored_is_shown : (idle : ℕ) (first : Log) (before : List Entry) (e : Entry) (between : List Entry) (f : Entry) (after : List Entry) (l : Log) (w : World) (n : Tally)
-    → Run idle nobody first (before ++ (e ∷ (between ++ (f ∷ after)))) l w n
+pub stored_is_shown : (idle : ℕ) (begin : World) (first : Log) (before : List Entry) (e : Entry) (between : List Entry) (f : Entry) (after : List Entry) (l : Log) (w : World) (n : Tally)
+    → Run idle begin first (before ++ (e ∷ (between ++ (f ∷ after)))) l w n
     → (at : TopicPart) (row : Row) → HasStored e at row → (key : Key) (item : Item) → Contains (shown_to key f) item → item.at ≡ at → item.row.offset ≡ row.offset → item.row ≡ row
-stored_is_shown idle first before e between f after l w n run at row stored key item shown there same =
-    let one = run_cut idle nobody first before (e ∷ (between ++ (f ∷ after))) l w n run in
+stored_is_shown idle begin first before e between f after l w n run at row stored key item shown there same =
+    let one = run_cut idle begin first before (e ∷ (between ++ (f ∷ after))) l w n run in
     let rest = one.rest in
     let m : Log = rest.0 in
     let v : World = rest.1 in

@@ -52,6 +52,14 @@ StoredIsShown =
     → (at : TopicPart) (row : Row) → HasStored e at row
     → (key : Key) (item : Item) → Contains (shown_to key f) item → item.at ≡ at → item.row.offset ≡ row.offset → item.row ≡ row
 
+-- the same of a run from any consumers and log
+abbrev pub StoredIsShownInRuns : Type 0
+StoredIsShownInRuns =
+    (idle : ℕ) (begin : World) (first : Log) (before : List Entry) (e : Entry) (between : List Entry) (f : Entry) (after : List Entry) (l : Log) (w : World) (n : Tally)
+    → Run idle begin first (before ++ (e ∷ (between ++ (f ∷ after)))) l w n
+    → (at : TopicPart) (row : Row) → HasStored e at row
+    → (key : Key) (item : Item) → Contains (shown_to key f) item → item.at ≡ at → item.row.offset ≡ row.offset → item.row ≡ row
+
 -- a row that a produce answers as stored stands behind all that its partition had before
 abbrev pub StoredRowsAreNew : Type 0
 StoredRowsAreNew =

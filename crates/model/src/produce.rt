@@ -1,10 +1,12 @@
 //! What becomes of a row that a produce stored.
 
-ghost use Rattle.model.specs.Stored.{OthersRise, RowsAreThoseStored, StoredIsShown, StoredRowsAreNew};
+ghost use Rattle.model.specs.Stored.{OthersRise, RowsAreThoseStored, StoredIsShown, StoredIsShownInRuns, StoredRowsAreNew};
 
-/// A row that a produce answered as stored is the one that any later reply shows at its offset.
+/// A row that a produce answered as stored is the one that any later reply shows at its offset, in a
+/// history and in a run from any moment.
 pub fn stored_is_shown()
-    ensures { StoredIsShown }
+    ensures history { StoredIsShown }
+    ensures runs { StoredIsShownInRuns }
 {}
 
 /// A row that a produce answers as stored is a new one: it stands in the log behind all that its

@@ -6,7 +6,6 @@ use Rattle.gate_io.proofs.Known.{Appends-trans}
 use Rattle.model.specs.Entry.{Call, Entry}
 use Rattle.model.specs.Legal.{Run}
 use Rattle.model.specs.Stretch.{Cut, StretchLaw}
-use Rattle.model.specs.World.{World, nobody}
 use Rattle.model.proofs.Stretches.{histories_cut, stretch_law}
 use Rattle.model.proofs.Stored.{stored_is_shown}
 use Rattle.model.proofs.Added.{run_adds}
@@ -82,7 +81,7 @@ plainer_runs still ticking runs = record {
 plainer_called : {plain plain2 ticks ticks2 : Type 0} {advertise : List ℕ} {call : Call} {s : Station} {r : Reply} {t : Station} → (plain → plain2) → (ticks → ticks2) → IsCalled advertise plain2 ticks2 call s r t → IsCalled advertise plain ticks call s r t
 plainer_called still ticking called = record {
   said = called.said;
-  answered = record { own = called.answered.own; runs = plainer_runs still ticking called.answered.runs; answer = called.answered.answer; serves = called.answered.serves; says = called.answered.says };
+  answered = record { own = called.answered.own; runs = plainer_runs still ticking called.answered.runs; answer = called.answered.answer; serves = called.answered.serves; says = called.answered.says; counted = called.answered.counted };
   replied = called.replied;
   named = called.named;
 }
@@ -116,11 +115,10 @@ stretches_in plain ticks s t history runs before e entries after is =
     (let cut = histories_cut never s.world s.log before e entries after t.log t.world runs.owed (subst (λ (es : List Entry). Run never s.world s.log es t.log t.world runs.owed) is runs.run) in
     (cut, stretch_law never s.world s.log before e entries after t.log t.world cut))
 
--- what was stored is shown in a run that begins without consumers
-shown_in : (plain ticks : Type 0) (s t : State) (history : List Entry) → Runs plain ticks s history t → s.world ≡ nobody → ShowWhatIsStored history
-shown_in plain ticks s t history runs alone before e between f after is =
-    stored_is_shown never s.log before e between f after t.log t.world runs.owed
-    (subst (λ (es : List Entry). Run never nobody s.log es t.log t.world runs.owed) is (subst (λ (w : World). Run never w s.log history t.log t.world runs.owed) alone runs.run))
+-- what was stored is shown
+shown_in : (plain ticks : Type 0) (s t : State) (history : List Entry) → Runs plain ticks s history t → ShowWhatIsStored history
+shown_in plain ticks s t history runs before e between f after is =
+    stored_is_shown never s.world s.log before e between f after t.log t.world runs.owed (subst (λ (es : List Entry). Run never s.world s.log es t.log t.world runs.owed) is runs.run)
 
 -- a run adds what it tells as stored
 gained_in : (plain ticks : Type 0) (s t : State) (history : List Entry) → Runs plain ticks s history t → GainsWhatIsStored s.log history t.log

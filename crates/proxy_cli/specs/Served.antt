@@ -3,7 +3,7 @@ use Rattle.std.specs.Prelude.{◌≡◌, ◌⊎◌, ◌||◌, ◌==◌, ℕ, ◌
 use Rattle.gate_io.specs.Clocks.{Hand}
 use Rattle.model.specs.Log.{Log, TopicPart, Row, rows_in_all}
 use Rattle.model.specs.Walk.{Item}
-use Rattle.model.specs.World.{Key, nobody}
+use Rattle.model.specs.World.{Key}
 use Rattle.model.specs.Entry.{Call, Entry, shown_to}
 use Rattle.model.specs.Stored.{HasStored, is_unknown, stored_by}
 use Rattle.model.specs.Stretch.{Cut, StretchLaw}
@@ -76,15 +76,14 @@ GainsWhatIsStored a history b =
     All (λ (e : Entry). is_unknown e.call e.reply ≡ false) history → rows_in_all b + a.others ≡ rows_in_all a + b.others + sum_by stored_by history
 
 -- Requests were answered by one run of the model from a station to a station, in which each stretch of a consumer's
--- replies shows the rows of a partition from the position at its start up to that at its end. What was stored is shown
--- where the run began without consumers.
+-- replies shows the rows of a partition from the position at its start up to that at its end, and what was stored is shown.
 pub record Answering (plain ticks : Type 0) (advertise : List ℕ) (s : Station) (requests : List Request) (replies : List Reply) (t : Station) : Type 0 where
   pub history : List Entry
   pub runs : Runs plain ticks s.state history t.state
   pub served : AnswersAll plain ticks advertise requests s replies history t
   pub stretches : (before : List Entry) (e : Entry) (entries after : List Entry) → history ≡ before ++ (e ∷ (entries ++ after))
       → (cut : Cut never s.state.world s.state.log before e entries after t.state.log t.state.world) × StretchLaw never s.state.world s.state.log before e entries after t.state.log t.state.world cut
-  pub shown : s.state.world ≡ nobody → ShowWhatIsStored history
+  pub shown : ShowWhatIsStored history
   pub gained : GainsWhatIsStored s.state.log history t.state.log
 
 -- the response to a request closes

@@ -200,6 +200,44 @@ fn rows_are_read_one_by_one_within_max_bytes(rt: HostRuntime) -> Result<(), Fail
     is_session(&rt, rt.alloc(), &exchanges, 0)
 }
 
+/// Each read begins at the partition behind the last one that was read from.
+#[test]
+fn partitions_take_turns(rt: HostRuntime) -> Result<(), Fail> {
+    let records = "GET /consumers/g/instances/c1/records?timeout=0&max_bytes=1";
+    let four =
+        "{\"records\":[{\"value\":\"S2Fma2E=\",\"partition\":0},{\"value\":\"S2Fma2E=\",\"partition\":0},{\"value\":\"S2Fma2E=\",\"partition\":1},{\"value\":\"S2Fma2E=\",\"partition\":1}]}";
+    let stored =
+        "{\"offsets\":[{\"partition\":0,\"offset\":0,\"error_code\":null,\"error\":null},{\"partition\":0,\"offset\":1,\"error_code\":null,\"error\":null},{\"partition\":1,\"offset\":0,\"error_code\":null,\"error\":null},{\"partition\":1,\"offset\":1,\"error_code\":null,\"error\":null}],\"key_schema_id\":null,\"value_schema_id\":null}";
+    let exchanges = [
+        told("POST /topics/orders", four, "200 OK", stored),
+        told("POST /consumers/g", EARLIEST, "200 OK", MADE),
+        told(
+            "POST /consumers/g/instances/c1/assignments",
+            "{\"partitions\":[{\"topic\":\"orders\",\"partition\":0},{\"topic\":\"orders\",\"partition\":1}]}",
+            "",
+            "",
+        ),
+        shown(
+            records,
+            "[{\"topic\":\"orders\",\"key\":null,\"value\":\"S2Fma2E=\",\"partition\":0,\"offset\":0}]",
+        ),
+        shown(
+            records,
+            "[{\"topic\":\"orders\",\"key\":null,\"value\":\"S2Fma2E=\",\"partition\":1,\"offset\":0}]",
+        ),
+        shown(
+            records,
+            "[{\"topic\":\"orders\",\"key\":null,\"value\":\"S2Fma2E=\",\"partition\":0,\"offset\":1}]",
+        ),
+        shown(
+            records,
+            "[{\"topic\":\"orders\",\"key\":null,\"value\":\"S2Fma2E=\",\"partition\":1,\"offset\":1}]",
+        ),
+        shown(records, "[]"),
+    ];
+    is_session(&rt, rt.alloc(), &exchanges, 0)
+}
+
 /// Looks at 0, 10, 20 and 30 ms: the last is the first that doesn't come before 25 ms are over.
 #[test]
 fn an_empty_topic_is_looked_at_four_times(rt: HostRuntime) -> Result<(), Fail> {

@@ -1,39 +1,72 @@
-use Rattle.std.proofs.Common.{◌≡◌, List, map, length, length, ap, ◌∙◌, arith}
-use Rattle.std.specs.List.{All, AllZip}
+use Rattle.std.proofs.Common.{◌≡◌, ◌-◌, ℕ, List, map, length, ap, ◌∙◌, arith, subst, sym}
+use Rattle.std.specs.List.{All, AllZip, RotatedLeft}
+use Rattle.std.proofs.lemmas.Grind.{common_steps}
 use Rattle.std.proofs.lemmas.List.{length-map}
 use Rattle.std.proofs.lemmas.Slice.Zip.{AllZip-long}
 use Rattle.model.specs.Log.{Log}
-use Rattle.broker_link.specs.Fetching.{IsFetched, AreGot}
+use Rattle.model.specs.Walk.{Place, turned}
+use Rattle.model.proofs.Walks.{All-turned}
+use Rattle.model.specs.Fixed.{HasPart}
+use Rattle.broker_link.specs.Fetching.{AreAsks, IsFetched}
 use Rattle.broker_link.specs.declared.fetch.FetchFrom.{FetchFrom}
-use Rattle.instance.specs.Gathering.{GotFrom, asked}
+use Rattle.broker_link.specs.declared.fetch.Fetched.{Fetched}
+use Rattle.instance.specs.Gathering.{asked, GotFrom}
 use Rattle.instance.specs.Lots.{HasOffsets}
 use Rattle.instance.specs.Views.{place_of}
-use Rattle.instance.proofs.Gathering.{if_ok, are_asks, offsets_of, got_from, have_asked}
+use Rattle.instance.proofs.Gathering.{offsets_of, got_from, have_asked}
+use Rattle.instance.proofs.Turning.{turned_asks, asked_turned, got_turned_back, length_turned}
 use Rattle.instance.proofs.fetching.fetch_from.Goals as goal
 
 pub fetch-requires-clause-asks : goal.fetch-requires-clause-asks
 fetch-requires-clause-asks g c =
-    let are : map asked c.as_slice.result.now ≡ map place_of c.args.places.now = ap (map asked) c.as_slice.ensures.value ∙ c.in_ok-asks.ensures in
-    are_asks c.as_slice.result.now (map place_of c.args.places.now) are (omega (arith, c.requires.some, length-map c.args.places.now place_of)) c.requires.order
+    let asks : List FetchFrom = c.in_ok-asks.asks.items in
+    let places : List Place = map place_of c.args.places.now in
+    let n : c.in_ok-asks.asks.len ≡ length asks = grind (arith, common_steps) in
+    let long : length places ≡ length c.args.places.now = length-map c.args.places.now place_of in
+    let turn : RotatedLeft asks c.rotate_left.new.self.items (length asks) c.args.first = subst (λ k. RotatedLeft asks c.rotate_left.new.self.items k c.args.first) n c.rotate_left.ensures.by_index in
+    let same : length c.rotate_left.new.self.items ≡ length asks = ap length c.rotate_left.ensures.items ∙ length_turned c.args.first asks in
+    subst AreAsks (sym c.as_slice.ensures.value)
+    (turned_asks asks c.rotate_left.new.self.items places c.args.first c.in_ok-asks.ensures turn same (omega (arith, c.requires.some, long)) (omega (arith, c.requires.first, long)) c.requires.order)
+
+pub returns-in-Err-clause-good : goal.returns-in-Err-clause-good
+returns-in-Err-clause-good g c = λ plain t have.
+    let places : List Place = map place_of c.args.places.now in
+    let are : map asked c.as_slice.result.now ≡ turned c.args.first places = ap (map asked) (c.as_slice.ensures.value ∙ c.rotate_left.ensures.items) ∙ asked_turned c.in_ok-asks.asks.items places c.args.first c.in_ok-asks.ensures in
+    let plainly = c.in-Err.ensures.plainly plain in
+    plainly.1 t (have_asked (g.L.Link.log c.args.link.now) c.as_slice.result.now (turned c.args.first places) are (All-turned (λ (p : Place). HasPart (g.L.Link.log c.args.link.now) p.at) c.args.first places have))
+
+-- as many came as places were asked from
+as_many : (asks asks2 : List FetchFrom) (fetched : List Fetched) (places : List Place) (k : ℕ) → map asked asks ≡ places → asks2 ≡ turned k asks → AllZip IsFetched asks2 fetched → length fetched ≡ length places
+as_many asks asks2 fetched places k are is each =
+    omega (arith, AllZip-long IsFetched asks2 fetched each, ap length is, length_turned k asks, ap length are, length-map asks asked)
+
+pub turned_back-requires : goal.turned_back-requires
+turned_back-requires g c =
+    let is = c.as_slice.ensures.value ∙ c.rotate_left.ensures.items in
+    let places : List Place = map place_of c.args.places.now in
+    let n = as_many c.in_ok-asks.asks.items c.as_slice.result.now c.in-Ok.fetched places c.args.first c.in_ok-asks.ensures is c.in-Ok.ensures.fetched in
+    omega (arith, c.requires.first, n, length-map c.args.places.now place_of)
 
 pub returns-clause-same : goal.returns-clause-same
 returns-clause-same g c =
-    let asks : List FetchFrom = c.as_slice.result.now in
-    let are : map asked asks ≡ map place_of c.args.places.now = ap (map asked) c.as_slice.ensures.value ∙ c.in_ok-asks.ensures in
-    let long : length asks ≡ length c.args.places.now = omega (arith, ap length are, length-map asks asked, length-map c.args.places.now place_of) in
-    if_ok c.fetch.result (AllZip IsFetched asks) _ (λ fetched h. AllZip-long IsFetched asks fetched h ∙ long) c.fetch.ensures.fetched
+    let is = c.as_slice.ensures.value ∙ c.rotate_left.ensures.items in
+    let places : List Place = map place_of c.args.places.now in
+    let n = as_many c.in_ok-asks.asks.items c.as_slice.result.now c.in-Ok.fetched places c.args.first c.in_ok-asks.ensures is c.in-Ok.ensures.fetched in
+    ap length c.in_ok-turned_back.ensures ∙ (length_turned (length c.in-Ok.fetched - c.args.first) c.in-Ok.fetched ∙ (n ∙ length-map c.args.places.now place_of))
 
 pub returns-clause-offsets : goal.returns-clause-offsets
-returns-clause-offsets g c = if_ok c.fetch.result (AllZip IsFetched c.as_slice.result.now) (All HasOffsets) (λ fetched h. offsets_of c.as_slice.result.now fetched h) c.fetch.ensures.fetched
+returns-clause-offsets g c =
+    subst (All HasOffsets) (sym c.in_ok-turned_back.ensures)
+    (All-turned HasOffsets (length c.in-Ok.fetched - c.args.first) c.in-Ok.fetched (offsets_of c.as_slice.result.now c.in-Ok.fetched c.in-Ok.ensures.fetched))
 
 pub returns-clause-got : goal.returns-clause-got
 returns-clause-got g c = λ t.
     let log : Log = g.L.Link.log c.fetch.new.self in
-    let are : map asked c.as_slice.result.now ≡ map place_of c.args.places.now = ap (map asked) c.as_slice.ensures.value ∙ c.in_ok-asks.ensures in
-    if_ok c.fetch.result (AreGot log c.as_slice.result.now) (GotFrom log (map place_of c.args.places.now)) (λ fetched h. got_from log c.as_slice.result.now fetched (map place_of c.args.places.now) are h) (c.fetch.ensures.got t)
-
-pub returns-clause-good : goal.returns-clause-good
-returns-clause-good g c = λ plain t have.
-    let are : map asked c.as_slice.result.now ≡ map place_of c.args.places.now = ap (map asked) c.as_slice.ensures.value ∙ c.in_ok-asks.ensures in
-    let plainly = c.fetch.ensures.plainly plain in
-    plainly.1 t (have_asked (g.L.Link.log c.args.link.now) c.as_slice.result.now (map place_of c.args.places.now) are have)
+    let is = c.as_slice.ensures.value ∙ c.rotate_left.ensures.items in
+    let places : List Place = map place_of c.args.places.now in
+    let fetched : List Fetched = c.in-Ok.fetched in
+    let n = as_many c.in_ok-asks.asks.items c.as_slice.result.now fetched places c.args.first c.in_ok-asks.ensures is c.in-Ok.ensures.fetched in
+    let are : map asked c.as_slice.result.now ≡ turned c.args.first places = ap (map asked) is ∙ asked_turned c.in_ok-asks.asks.items places c.args.first c.in_ok-asks.ensures in
+    let got = got_from log c.as_slice.result.now fetched (turned c.args.first places) are (c.in-Ok.ensures.got t) in
+    subst (GotFrom log places) (sym c.in_ok-turned_back.ensures)
+    (got_turned_back log places c.args.first (length fetched - c.args.first) fetched got (ap (λ m. m - c.args.first) n))
