@@ -11,31 +11,19 @@ use Rattle.avro_schema.specs.Nodes.{SchemaValue, Stands, StandForBranches, Stand
 use Rattle.avro_schema.specs.declared.schema.Kind.{Kind}
 use Rattle.avro_schema.specs.declared.schema.Kind.TheVariants as kinds
 use Rattle.avro_codec.specs.declared.cursor.Head.{Head}
-use Rattle.avro_codec.specs.declared.error.AvroNo.{AvroNo}
-use Rattle.avro_codec.specs.declared.error.AvroNo.TheVariants.{Mismatch, Rest, Want}
-use Rattle.avro_codec.specs.declared.datum.Datum.{Datum}
-use Rattle.avro_codec.specs.Value.{Value, branch, max_levels, value_of}
-use Rattle.avro_codec.specs.Spelling.{branch_at}
-use Rattle.avro_codec.specs.Picks.{Picks, is_nesting}
-use Rattle.avro_codec.proofs.PickLemmas.{branch_stands, resolves_is}
-use Rattle.avro_codec.specs.Reading.{Place, Read, Reader, Reads, ◌>>=◌, Fails, many, with_front, weighs, head_at, long_at, text_at, block_at, blocks, all_blocks, entry_at, fields_at, picked, branch_of, union_at, giving, body_at, nests, entered, node_at, value_at, below_at, behind, datum_at, ended}
+use Rattle.avro_datum.specs.declared.error.AvroNo.{AvroNo}
+use Rattle.avro_datum.specs.declared.error.AvroNo.TheVariants.{Mismatch, Rest, Want}
+use Rattle.avro_datum.specs.declared.datum.Datum.{Datum}
+use Rattle.avro_datum.specs.Value.{Value, branch, max_levels, value_of}
+use Rattle.avro_datum.specs.Judging.{branch_at}
+use Rattle.avro_datum.specs.Picks.{Picks, is_nesting}
+use Rattle.avro_datum.proofs.PickLemmas.{branch_stands, resolves_is}
+use Rattle.avro_codec.specs.Reading.{Place, Read, Reader, Reads, many, with_front, weighs, head_at, long_at, text_at, block_at, blocks, all_blocks, entry_at, fields_at, picked, branch_of, union_at, giving, body_at, nests, entered, node_at, value_at, below_at, behind, datum_at, ended}
+use Rattle.avro_datum.specs.Steps.{◌>>=◌, Fails}
+use Rattle.avro_datum.proofs.StepLemmas.{bind_at, ok_is}
+use Rattle.avro_datum.proofs.NodeLemmas.{fails_on, fails_along}
 
 -- ---- steps
-
-pub stop_on : {A B : Type 0} (e : AvroNo) (r : Result A AvroNo) (f : A → Result B AvroNo) → Fails e r → Fails e (r >>= f)
-stop_on e r f (inl want) = inl want
-stop_on {A} e r f (inr is) = inr (ap (λ (x : Result A AvroNo). x >>= f) is)
-
-pub stop_along : {A : Type 0} (e : AvroNo) (r s : Result A AvroNo) → r ≡ s → Fails e r → Fails e s
-stop_along e r s same (inl want) = inl want
-stop_along e r s same (inr is) = inr (sym same ∙ is)
-
-pub bind_ok : {A B : Type 0} (r : Result A AvroNo) (f : A → Result B AvroNo) (y : B) → (r >>= f) ≡ Ok y → (x : A) × (r ≡ Ok x) × (f x ≡ Ok y)
-bind_ok (Ok x) f y is = (x, refl, is)
-bind_ok (Err e) f y is = absurd cc
-
-pub bind_at : {A B : Type 0} (r : Result A AvroNo) (f : A → Result B AvroNo) (x : A) → r ≡ Ok x → (r >>= f) ≡ f x
-bind_at {A} r f x is = ap (λ (y : Result A AvroNo). y >>= f) is
 
 -- what was read in front, and one more
 regroup : {A : Type 0} (front : List A) (x : A) (read : Read (List A)) → with_front front (read >>= λ xs. Ok (x ∷ xs.0, xs.1)) ≡ with_front (front ++ (x ∷ [])) read
@@ -69,7 +57,7 @@ pub many_stop : {A : Type 0} (front : List A) (n : ℕ) (one : Place → Read A)
 unfolding many
 many_stop front zero one p e total some fails so_far = absurd (omega arith)
 many_stop front (suc n) one p e total some fails so_far =
-    stop_along e _ _ so_far (stop_on e _ (λ xs. Ok (front ++ xs.0, xs.1)) (stop_on e (one p) (λ y. many n one y.1 >>= λ xs. Ok (y.0 ∷ xs.0, xs.1)) fails))
+    fails_along e _ _ so_far (fails_on e _ (λ xs. Ok (front ++ xs.0, xs.1)) (fails_on e (one p) (λ y. many n one y.1 >>= λ xs. Ok (y.0 ∷ xs.0, xs.1)) fails))
 
 pub many_done : {A : Type 0} (front : List A) (n : ℕ) (one : Place → Read A) (p : Place) (total : Read (List A)) → n ≤ 0 → with_front front (many n one p) ≡ total → total ≡ Ok (front, p)
 unfolding many
@@ -86,12 +74,6 @@ pub record BlocksRead {A : Type 0} (front : List A) (k : ℕ) (one : Place → R
 
 pub blocks_begin : {A : Type 0} (k : ℕ) (one : Place → Read A) (p : Place) → BlocksRead [] k one p (all_blocks k one p)
 blocks_begin k one p = record { most = suc (length p.left); enough = omega arith; is = all_there (blocks (suc (length p.left)) k one p) }
-
-abbrev done : {A : Type 0} → A → Result A AvroNo
-done x = Ok x
-
-pub ok_is : {A : Type 0} (x y : A) → done x ≡ done y → x ≡ y
-ok_is x y is = cc
 
 front_of : {A : Type 0} (front front' : List A) (r : Read (List A)) (q : Place) → with_front front r ≡ Ok (front', q) → (xs : List A) × (r ≡ Ok (xs, q)) × (front ++ xs ≡ front')
 front_of {A} front front' (Ok xs) q is =
@@ -175,7 +157,7 @@ blocks_headless {A} front k one p e total so_far fails = go so_far.most so_far.e
   where
     go : (most : ℕ) → length p.left < most → with_front front (blocks most k one p) ≡ total → Fails e total
     go zero enough is = absurd (omega arith)
-    go (suc most) enough is = stop_along e _ _ is (stop_on e _ (λ xs. Ok (front ++ xs.0, xs.1)) (stop_on e (head_at k p) (behind_head most k one) fails))
+    go (suc most) enough is = fails_along e _ _ is (fails_on e _ (λ xs. Ok (front ++ xs.0, xs.1)) (fails_on e (head_at k p) (behind_head most k one) fails))
 
 pub blocks_done : {A : Type 0} (front : List A) (k : ℕ) (one : Place → Read A) (p : Place) (h : Head) (q : Place) (total : Read (List A)) → BlocksRead front k one p total
     → head_at k p ≡ Ok (h, q) → h.count ≡ 0 → total ≡ Ok (front, q)
@@ -213,7 +195,7 @@ fields_stop s left rest f front inner p e total so_far is fails = go so_far.more
   where
     go : (more : Fields) → StandForFields s (f ∷ rest) more → with_front front (fields_at inner more p) ≡ total → Fails e total
     go schema.no_fields stands at = absurd stands
-    go (schema.field name t ts) stands at = stop_along e _ _ at (stop_on e _ (λ xs. Ok (front ++ xs.0, xs.1)) (stop_on e (inner t p) (λ x. fields_at inner ts x.1 >>= λ vs. Ok (x.0 ∷ vs.0, vs.1)) (fails t stands.1)))
+    go (schema.field name t ts) stands at = fails_along e _ _ at (fails_on e _ (λ xs. Ok (front ++ xs.0, xs.1)) (fails_on e (inner t p) (λ x. fields_at inner ts x.1 >>= λ vs. Ok (x.0 ∷ vs.0, vs.1)) (fails t stands.1)))
 
 pub fields_done : (s : SchemaValue) (left : List Field) (front : List Value) (inner : Reader) (p : Place) (total : Read (List Value)) → FieldsRead s left front inner p total → left ≡ [] → total ≡ Ok (front, p)
 unfolding fields_at
@@ -230,11 +212,11 @@ entry_read inner k t p q r key v text is =
     bind_at (text_at k p) (λ x. inner t x.1 >>= λ y. Ok (record { key = x.0; value = y.0 }, y.1)) (key, q) text ∙ bind_at (inner t q) (λ y. Ok (record { key = key; value = y.0 }, y.1)) (v, r) is
 
 pub entry_keyless : (inner : Reader) (k : ℕ) (t : AvroType) (p : Place) (e : AvroNo) → Fails e (text_at k p) → Fails e (entry_at inner k t p)
-entry_keyless inner k t p e fails = stop_on e (text_at k p) (λ x. inner t x.1 >>= λ y. Ok (record { key = x.0; value = y.0 }, y.1)) fails
+entry_keyless inner k t p e fails = fails_on e (text_at k p) (λ x. inner t x.1 >>= λ y. Ok (record { key = x.0; value = y.0 }, y.1)) fails
 
 pub entry_stop : (inner : Reader) (k : ℕ) (t : AvroType) (p q : Place) (key : List ℕ) (e : AvroNo) → text_at k p ≡ Ok (key, q) → Fails e (inner t q) → Fails e (entry_at inner k t p)
 entry_stop inner k t p q key e text fails =
-    stop_along e _ _ (sym (bind_at (text_at k p) (λ x. inner t x.1 >>= λ y. Ok (record { key = x.0; value = y.0 }, y.1)) (key, q) text)) (stop_on e (inner t q) (λ y. Ok (record { key = key; value = y.0 }, y.1)) fails)
+    fails_along e _ _ (sym (bind_at (text_at k p) (λ x. inner t x.1 >>= λ y. Ok (record { key = x.0; value = y.0 }, y.1)) (key, q) text)) (fails_on e (inner t q) (λ y. Ok (record { key = key; value = y.0 }, y.1)) fails)
 
 -- ---- branches
 
@@ -258,7 +240,7 @@ pub picked_read : (inner : Reader) (k n : ℕ) (u : AvroType) (q r : Place) (v :
 picked_read inner k n u q r v is = bind_at (inner u q) (λ x. Ok (branch n x.0, x.1)) (v, r) is
 
 pub picked_stop : (inner : Reader) (k n : ℕ) (u : AvroType) (q : Place) (e : AvroNo) → Fails e (inner u q) → Fails e (picked inner k n (Some u) q)
-picked_stop inner k n u q e fails = stop_on e (inner u q) (λ x. Ok (branch n x.0, x.1)) fails
+picked_stop inner k n u q e fails = fails_on e (inner u q) (λ x. Ok (branch n x.0, x.1)) fails
 
 -- a place below 2 ^ 32
 pub place_is : (z : ℤ) (n : ℕ) → FitsUnsignedBits 32 z → n ≡ nat_abs z → (z ≡ pos n) × (n < 2 ^ 32)
@@ -309,7 +291,7 @@ pub node_stops : (whole : AvroType) (levels : ℕ) (t : AvroType) (p : Place) (k
     → Fails e (value_at whole levels t p)
 node_stops whole levels t p kind deep e is nest fails =
     let test : entered deep p ≡ entered (nests (resolved whole t) && (levels == 0)) p = ap (λ (b : Bool). entered b p) is ∙ ap (λ (b : Bool). entered (b && (levels == 0)) p) (sym nest) in
-    stop_along e _ _ (sym (value_is whole levels t p)) (stop_on e _ (λ x. body_at (below_at whole levels) x.0 (resolved whole t) x.1) (stop_along e _ _ test fails))
+    fails_along e _ _ (sym (value_is whole levels t p)) (fails_on e _ (λ x. body_at (below_at whole levels) x.0 (resolved whole t) x.1) (fails_along e _ _ test fails))
 
 -- a node with parts has a level for them
 pub room_is : (levels : ℕ) (kind : Bool) → kind ≡ true → (kind && (levels == 0)) ≡ false → levels ≡ suc (levels - 1)
@@ -325,7 +307,7 @@ pub giving_read : {A : Type 0} (f : A → Value) (r : Read A) (x : A) (q : Place
 giving_read f r x q is = bind_at r (λ y. Ok (f y.0, y.1)) (x, q) is
 
 pub giving_stop : {A : Type 0} (f : A → Value) (r : Read A) (e : AvroNo) → Fails e r → Fails e (giving f r)
-giving_stop f r e fails = stop_on e r (λ y. Ok (f y.0, y.1)) fails
+giving_stop f r e fails = fails_on e r (λ y. Ok (f y.0, y.1)) fails
 
 pub reads_along : {X Y : Type 0} (view : X → Y) (r : Result X AvroNo) (a b : Read Y) (now : Place) → a ≡ b → Reads view r a now → Reads view r b now
 reads_along {X} {Y} view r a b now same reads = subst (λ (x : Read Y). Reads view r x now) same reads
@@ -347,4 +329,4 @@ datum_more whole bs v q empty is at ended_is = inr (bind_at (value_at whole max_
 
 pub datum_stop : (whole : AvroType) (bs : List ℕ) (e : AvroNo) → Fails e (value_at whole max_levels whole (behind 0 bs)) → Fails e (datum_at whole bs)
 unfolding datum_at
-datum_stop whole bs e fails = stop_on e (value_at whole max_levels whole (behind 0 bs)) ended fails
+datum_stop whole bs e fails = fails_on e (value_at whole max_levels whole (behind 0 bs)) ended fails

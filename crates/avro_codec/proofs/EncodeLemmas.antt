@@ -1,22 +1,22 @@
 -- Writing the parts of a datum one after the other, as a loop does.
-use Rattle.std.proofs.Common.{◌≡◌, ℕ, suc, pos, ◌+◌, ◌-◌, ◌<◌, ◌≤◌, ◌≢◌, eqb, Bool, false, List, [], ◌∷◌, ◌++◌, length, map, drop, get_or, Option, Some, None, Ok, Err, inl, inr, refl, sym, ap, ◌∙◌, subst, arith, append_assoc, add-one, drop-cons}
+use Rattle.std.proofs.Common.{◌≡◌, ℕ, suc, pos, List, [], ◌∷◌, ◌++◌, length, map, Some, None, Ok, inr, refl, sym, ap, ◌∙◌, subst, append_assoc}
 use Rattle.std.proofs.lemmas.List.{append-nil}
-use Rattle.std.proofs.lemmas.Bool.{eqb-false}
-use Rattle.std.proofs.Math.ListN.{drop_of_length-le}
 use Rattle.avro_schema.specs.Types as schema
 use Rattle.avro_schema.specs.Types.{AvroType, Fields, resolved}
 use Rattle.avro_schema.specs.declared.parts.Field.{Field}
 use Rattle.avro_schema.specs.Nodes.{SchemaValue, Stands, tree_of, StandForFields}
-use Rattle.avro_codec.specs.declared.error.AvroNo.{AvroNo}
-use Rattle.avro_codec.specs.declared.error.AvroNo.TheVariants.{Mismatch}
-use Rattle.avro_codec.specs.declared.datum.Datum.{Datum}
-use Rattle.avro_codec.specs.declared.datum.MapItem.{MapItem}
-use Rattle.avro_codec.specs.Value as shapes
-use Rattle.avro_codec.specs.Value.{value_of, item_of, values_of, entries_of}
-use Rattle.avro_codec.specs.Plain.{plain, plain_values, plain_entries, size_of, count_of, one_block, long_bytes}
-use Rattle.avro_codec.specs.Reading.{◌>>=◌, Fails}
-use Rattle.avro_codec.specs.Judging.{Verdict, opened, inside, node, judged, judged_items, judged_entry, judged_entries, judged_fields, items_in, entries_in, fields_in}
-use Rattle.avro_codec.specs.Picks.{Picks, PicksFields}
+use Rattle.avro_datum.specs.declared.error.AvroNo.{AvroNo}
+use Rattle.avro_datum.specs.declared.error.AvroNo.TheVariants.{Mismatch}
+use Rattle.avro_datum.specs.declared.datum.Datum.{Datum}
+use Rattle.avro_datum.specs.declared.datum.MapItem.{MapItem}
+use Rattle.avro_datum.specs.Value as shapes
+use Rattle.avro_datum.specs.Value.{value_of, item_of, values_of, entries_of}
+use Rattle.avro_codec.specs.Plain.{plain, plain_values, plain_entries, one_block, long_bytes}
+use Rattle.avro_datum.specs.Value.{size_of, count_of}
+use Rattle.avro_datum.specs.Steps.{Fails}
+use Rattle.avro_datum.specs.Judging.{opened, judged, judged_items, judged_entry, judged_entries, judged_fields, items_in, entries_in, fields_in}
+use Rattle.avro_datum.specs.Picks.{Picks, PicksFields}
+use Rattle.avro_datum.proofs.NodeLemmas.{node_is, node_lacks, fails_along, fails_on, size_is, count_is}
 
 -- the items of an array so far
 pub record ItemsPut (s : SchemaValue) (below : ℕ) (item first next : ℕ) (all left : List Datum) (before out : List ℕ) : Type 0 where
@@ -33,45 +33,6 @@ pub record FieldsPut (s : SchemaValue) (below : ℕ) (nodes : List Field) (nodes
   pub verdict : (ts : Fields) → StandForFields s nodes ts → (more : Fields) × StandForFields s nodes_left more
       × (judged_fields (tree_of s) below more next (values_of (map value_of left)) ≡ judged_fields (tree_of s) below ts (suc first) (values_of (map value_of all)))
   pub bytes : out ++ plain_values (values_of (map value_of left)) ≡ before ++ plain_values (values_of (map value_of all))
-
--- ---- a node with parts
-
-pub node_is : {T : Type 0} (levels k below : ℕ) (o : Option T) (u : T) (parts : ℕ → T → Verdict) → opened levels k ≡ Ok below → o ≡ Some u → node levels k o parts ≡ parts below u
-node_is {T} levels k below o u parts at_below some =
-    ap (λ (v : Verdict). v >>= λ b. inside k o (parts b)) at_below ∙ ap (λ (x : Option T). inside k x (parts below)) some
-
-pub node_lacks : {T : Type 0} (levels k below : ℕ) (o : Option T) (parts : ℕ → T → Verdict) → opened levels k ≡ Ok below → o ≡ None → node levels k o parts ≡ Err (Mismatch k)
-node_lacks {T} levels k below o parts at_below none =
-    ap (λ (v : Verdict). v >>= λ b. inside k o (parts b)) at_below ∙ ap (λ (x : Option T). inside k x (parts below)) none
-
-pub node_fails : {T : Type 0} (levels k : ℕ) (o : Option T) (parts : ℕ → T → Verdict) (e : AvroNo) → Fails e (opened levels k) → Fails e (node levels k o parts)
-node_fails levels k o parts e (inl want) = inl want
-node_fails levels k o parts e (inr is) = inr (ap (λ (v : Verdict). v >>= λ b. inside k o (parts b)) is)
-
-pub fails_along : (e : AvroNo) (v w : Verdict) → v ≡ w → Fails e v → Fails e w
-fails_along e v w same (inl want) = inl want
-fails_along e v w same (inr is) = inr (sym same ∙ is)
-
--- what stops a part stops what follows
-pub fails_on : (e : AvroNo) (v : Verdict) (f : ℕ → Verdict) → Fails e v → Fails e (v >>= f)
-fails_on e v f (inl want) = inl want
-fails_on e v f (inr is) = inr (ap (λ (x : Verdict). x >>= f) is)
-
--- ---- the next part of those left
-
-pub rest_is : {A : Type 0} (xs : List A) (i : ℕ) (x : A) → i < length xs → x ≡ get_or xs i x → drop i xs ≡ x ∷ drop (i + 1) xs
-rest_is xs i x inside is = drop-cons xs i x inside ∙ rw (← is, add-one) refl
-
-pub none_left : {A : Type 0} (xs : List A) (i : ℕ) → length xs ≤ i → drop i xs ≡ []
-none_left xs i past = drop_of_length-le xs past
-
-pub size_is : (xs : List Datum) → size_of (values_of (map value_of xs)) ≡ length xs
-size_is [] = refl
-size_is (x ∷ xs) = ap suc (size_is xs)
-
-pub count_is : (es : List MapItem) → count_of (entries_of (map item_of es)) ≡ length es
-count_is [] = refl
-count_is (e ∷ es) = ap suc (count_is es)
 
 -- ---- items
 
@@ -200,7 +161,3 @@ pub fields_lacking : (s : SchemaValue) (levels k below site : ℕ) (all : List D
     → (t : AvroType) → Stands s site t → Fails (Mismatch k) (judged (tree_of s) levels t k (shapes.fields (values_of (map value_of all))))
 fields_lacking s levels k below site all at_below lacks t stands =
     inr (node_lacks levels k below _ (λ b ts. judged_fields (tree_of s) b ts (suc k) (values_of (map value_of all))) at_below (ap (fields_in (resolved (tree_of s) t)) (size_is all) ∙ lacks t stands))
-
--- a list that isn't empty
-pub some_there : {A : Type 0} (xs : List A) (empty : Bool) → empty ≡ eqb (length xs) 0 → empty ≡ false → length xs ≡ suc (length xs - 1)
-some_there xs empty is not = let some : length xs ≢ 0 = eqb-false _ _ (sym is ∙ not) in omega arith

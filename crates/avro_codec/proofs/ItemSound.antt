@@ -1,5 +1,5 @@
 -- What is read of an item is spelled so: integers, pieces of bytes, and flags.
-use Rattle.std.proofs.Common.{◌≡◌, ℕ, zero, suc, ◌+◌, ◌%◌, ◌^◌, ◌<◌, ◌≤◌, List, [], ◌∷◌, ◌++◌, length, take, drop, Result, Ok, Err, ℤ, pos, negsuc, Bool, true, false, cond, eqb, nat_le, nat_lt, refl, sym, ap, ◌∙◌, subst, inl, inr, arith, ltb-true, length-take, append_assoc}
+use Rattle.std.proofs.Common.{◌≡◌, ℕ, zero, suc, ◌+◌, ◌%◌, ◌^◌, ◌<◌, ◌≤◌, List, [], ◌∷◌, ◌++◌, length, take, drop, Ok, Err, ℤ, pos, negsuc, Bool, true, false, cond, eqb, nat_le, nat_lt, refl, sym, ap, ◌∙◌, subst, inl, inr, arith, ltb-true, length-take, append_assoc}
 use Rattle.std.specs.Str.{is_utf8}
 use Rattle.std.proofs.lemmas.Bool.{cases_Bool, eqb-true, eqb-false, leb-true, leb-false}
 use Rattle.std.proofs.lemmas.List.{take-append-drop}
@@ -7,13 +7,13 @@ use Rattle.wire_prim.specs.declared.error.PrimNo.TheVariants.{TooLong, Short as 
 use Rattle.wire_prim.specs.Behind.{Behind}
 use Rattle.wire_prim.specs.Varint.{lead, zigzag, unzigzag, grouped, run_of, varint_at, behind_run, behind_bounded, behind_varint, behind_varlong, IsVarint}
 use Rattle.wire_prim.proofs.VarintLemmas.{run_ends}
-use Rattle.avro_codec.specs.declared.error.AvroNo.TheVariants.{Short, BadUtf8}
+use Rattle.avro_datum.specs.declared.error.AvroNo.TheVariants.{Short, BadUtf8}
 use Rattle.avro_codec.specs.Plain.{flag}
 use Rattle.avro_codec.specs.Spelling.{IsInt, IsLong, IsSized}
-use Rattle.avro_codec.specs.Value.{max_nodes}
+use Rattle.avro_datum.specs.Value.{max_nodes}
 use Rattle.avro_codec.specs.Reading.{Place, Read, behind, number, int_at, long_at, run_at, measured, sized_at, utf8, text_at, flag_of, flag_at}
 use Rattle.avro_codec.proofs.VarintLemmas.{bounded_ok, int_fits, long_fits}
-use Rattle.avro_codec.proofs.DecodeLemmas.{bind_ok, ok_is}
+use Rattle.avro_datum.proofs.StepLemmas.{bind_ok, ok_is, chosen_ok, chosen_else}
 
 -- the front of the bytes was read as x, whose nodes were counted
 pub record Took {A : Type 0} (spells : A → List ℕ → Type 0) (count : A → ℕ) (p : Place) (x : A) (q : Place) : Type 0 where
@@ -28,14 +28,6 @@ Sound {A} spells count one = (p : Place) (x : A) (q : Place) → one p ≡ Ok (x
 
 abbrev pub no_node : {A : Type 0} → A → ℕ
 no_node x = 0
-
-pub chosen_ok : {X E : Type 0} (b : Bool) (e : E) (x y : X) → cond b (Ok x) (Err e) ≡ Ok y → (b ≡ true) × (x ≡ y)
-chosen_ok true e x y is = (refl, cc)
-chosen_ok false e x y is = absurd cc
-
-pub chosen_else : {X E : Type 0} (b : Bool) (e : E) (r : Result X E) (y : X) → cond b (Err e) r ≡ Ok y → (b ≡ false) × (r ≡ Ok y)
-chosen_else true e r y is = absurd cc
-chosen_else false e r y is = (refl, is)
 
 -- ---- integers
 

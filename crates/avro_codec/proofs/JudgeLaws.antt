@@ -1,27 +1,24 @@
 -- Each value that has a spelling within the limits is judged to be of its type.
-use Rattle.std.proofs.Common.{◌≡◌, ℕ, suc, ◌+◌, ◌^◌, ◌<◌, ◌≤◌, List, length, Option, Some, Ok, ℤ, pos, negsuc, Bool, true, nat_lt, ◌&&◌, ◌==◌, FitsSigned, inl, inr, refl, sym, ap, ◌∙◌, arith, lt-ltb}
-use Rattle.std.specs.Int.{w32, w64}
+use Rattle.std.proofs.Common.{◌≡◌, ℕ, suc, ◌+◌, ◌^◌, ◌<◌, ◌≤◌, List, length, Option, Some, Ok, Bool, true, nat_lt, ◌&&◌, inl, inr, refl, sym, ap, ◌∙◌, arith, lt-ltb}
 use Rattle.std.proofs.lemmas.Bool.{eq-eqb}
 use Rattle.avro_schema.specs.Types as schema
 use Rattle.avro_schema.specs.Types.{AvroType, Branches, Fields, resolved}
-use Rattle.avro_codec.specs.declared.error.AvroNo.{AvroNo}
-use Rattle.avro_codec.specs.declared.error.AvroNo.TheVariants.{Want}
-use Rattle.avro_codec.specs.Value.{Value, Values, Entries, null, boolean, int, long, bytes, string, fixed, symbol, branch, fields, items, entries, no_values, value, no_entries, entry, nodes, nodes_in, nodes_among, IsWithin, AreWithin, EntriesWithin, IsSmall, max_levels, max_nodes}
-use Rattle.avro_codec.specs.Plain.{size_of, count_of}
-use Rattle.avro_codec.specs.Spelling.{branch_at, IsDatum, AreFields, AreItems, AreEntries}
-use Rattle.avro_codec.specs.Reading.{Fails}
-use Rattle.avro_codec.specs.Judging.{Verdict, is_null, is_boolean, is_int, is_long, is_bytes, is_string, is_fixed, has_symbol, branch_in, number_of, fields_in, items_in, entries_in, is_below, leaf, opened, node, is_key, keyed, judged, judged_fields, judged_items, judged_entries, verdict}
-use Rattle.avro_codec.proofs.DecodeLemmas.{bind_at}
-use Rattle.avro_codec.proofs.EncodeLemmas.{node_is}
+use Rattle.avro_datum.specs.declared.error.AvroNo.{AvroNo}
+use Rattle.avro_datum.specs.declared.error.AvroNo.TheVariants.{Want}
+use Rattle.avro_datum.specs.Value.{Value, Values, Entries, null, boolean, int, long, bytes, string, fixed, symbol, branch, fields, items, entries, no_values, value, no_entries, entry, nodes, nodes_in, nodes_among, IsWithin, AreWithin, EntriesWithin, IsSmall, max_levels, max_nodes}
+use Rattle.avro_datum.specs.Value.{size_of, count_of}
+use Rattle.avro_codec.specs.Spelling.{IsDatum, AreFields, AreItems, AreEntries}
+use Rattle.avro_datum.specs.Steps.{Fails}
+use Rattle.avro_datum.specs.Judging.{Verdict, is_null, is_boolean, is_int, is_long, is_bytes, is_string, is_fixed, has_symbol, number_of, entries_in, leaf, node, is_key, keyed, judged, judged_fields, judged_items, judged_entries, verdict}
+use Rattle.avro_datum.proofs.NodeLemmas.{node_is}
+use Rattle.avro_datum.proofs.StepLemmas.{bind_at}
+use Rattle.avro_datum.proofs.CountLemmas.{below32, below64, opened_is, branch_is, fields_are, items_are, size_few, count_few}
 
 leaf_is : (k : ℕ) (holds : Bool) → holds ≡ true → k + 1 ≤ max_nodes → leaf k holds ≡ Ok (k + 1)
 leaf_is k holds is few =
     let test : nat_lt k max_nodes ≡ true = lt-ltb _ _ (omega arith) in
     let one : suc k ≡ k + 1 = omega arith in
     rw (test, is) (ap (λ (n : ℕ). Ok n) one)
-
-opened_is : (levels b k : ℕ) → levels ≡ suc b → k < max_nodes → opened levels k ≡ Ok b
-opened_is levels b k level few = let test : nat_lt k max_nodes ≡ true = lt-ltb _ _ few in ap (λ (l : ℕ). opened l k) level ∙ rw test refl
 
 -- a node with parts
 parts_is : {T : Type 0} (levels b k more : ℕ) (o : Option T) (u : T) (parts : ℕ → T → Verdict) → levels ≡ suc b → o ≡ Some u → k + (1 + more) ≤ max_nodes → parts b u ≡ Ok (suc k + more) → node levels k o parts ≡ Ok (k + (1 + more))
@@ -32,50 +29,11 @@ parts_is levels b k more o u parts level some few is =
 all_hold : (a b : Bool) → a ≡ true → b ≡ true → (a && b) ≡ true
 all_hold a b p q = rw p q
 
-below32 : (n : ℤ) → FitsSigned w32 n → is_below (2 ^ 31) n ≡ true
-below32 (pos n) fits = lt-ltb _ _ fits.sfits
-below32 (negsuc n) fits = lt-ltb _ _ fits.sfits
-
-below64 : (n : ℤ) → FitsSigned w64 n → is_below (2 ^ 63) n ≡ true
-below64 (pos n) fits = lt-ltb _ _ fits.sfits
-below64 (negsuc n) fits = lt-ltb _ _ fits.sfits
-
 -- ---- counts
-
-node_one : (v : Value) → 1 ≤ nodes v
-node_one null = omega arith
-node_one (boolean b) = omega arith
-node_one (int n) = omega arith
-node_one (long n) = omega arith
-node_one (bytes bs) = omega arith
-node_one (string bs) = omega arith
-node_one (fixed bs) = omega arith
-node_one (symbol n) = omega arith
-node_one (branch n v) = omega arith
-node_one (fields vs) = omega arith
-node_one (items vs) = omega arith
-node_one (entries es) = omega arith
-
-size_few : (vs : Values) → size_of vs ≤ nodes_in vs
-size_few no_values = omega arith
-size_few (value v vs) = omega (arith, size_few vs, node_one v)
-
-count_few : (es : Entries) → count_of es ≤ nodes_among es
-count_few no_entries = omega arith
-count_few (entry key v es) = omega (arith, count_few es, node_one v)
 
 fields_count : (whole : AvroType) (vs : Values) (ts : Fields) (bs : List ℕ) → AreFields whole ts vs bs → size_of vs ≡ number_of ts
 fields_count whole no_values ts bs are = sym (ap number_of are.0)
 fields_count whole (value v vs) ts bs are = ap suc (fields_count whole vs are.2 are.5 are.8) ∙ sym (ap number_of are.3)
-
-branch_is : (t : AvroType) (ts : Branches) (n : ℕ) (u : AvroType) → t ≡ schema.union ts → branch_at ts n ≡ Some u → n < 2 ^ 32 → branch_in t n ≡ Some u
-branch_is t ts n u is at small = let test : nat_lt n (2 ^ 32) ≡ true = lt-ltb _ _ small in ap (λ (x : AvroType). branch_in x n) is ∙ rw test at
-
-fields_are : (t : AvroType) (name : List ℕ) (ts : Fields) (n : ℕ) → t ≡ schema.record_ name ts → n ≡ number_of ts → fields_in t n ≡ Some ts
-fields_are t name ts n is size = let test : (n == number_of ts) ≡ true = eq-eqb _ _ size in ap (λ (x : AvroType). fields_in x n) is ∙ rw test refl
-
-items_are : (t u : AvroType) (n : ℕ) → t ≡ schema.array u → n < 2 ^ 63 → items_in t n ≡ Some u
-items_are t u n is small = let test : nat_lt n (2 ^ 63) ≡ true = lt-ltb _ _ small in ap (λ (x : AvroType). items_in x n) is ∙ rw test refl
 
 entries_are : (t u : AvroType) (n : ℕ) → t ≡ schema.map u → n < 2 ^ 63 → entries_in t n ≡ Some u
 entries_are t u n is small = let test : nat_lt n (2 ^ 63) ≡ true = lt-ltb _ _ small in ap (λ (x : AvroType). entries_in x n) is ∙ rw test refl

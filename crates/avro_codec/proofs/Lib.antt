@@ -1,4 +1,3 @@
-pub mod PickLemmas
 pub mod EncodeLemmas
 pub mod VarintLemmas
 pub mod ReadLemmas

@@ -1,7 +1,7 @@
 -- The one spelling that is written: shortest varints, and one block (Apache Avro 1.11 specification, "Binary Encoding").
 use Rattle.std.specs.Prelude.{ℕ, zero, suc, ℤ, pos, List, [], ◌∷◌, ◌++◌, length, Bool, true, false}
 use Rattle.wire_prim.specs.Varint.{varint_bytes, varlong_bytes}
-use Rattle.avro_codec.specs.Value.{Value, Values, Entries, Entry, null, boolean, int, long, bytes, string, fixed, symbol, branch, fields, items, entries, no_values, value, no_entries, entry}
+use Rattle.avro_datum.specs.Value.{Value, Values, Entries, Entry, null, boolean, int, long, bytes, string, fixed, symbol, branch, fields, items, entries, no_values, value, no_entries, entry, size_of, count_of}
 
 -- false is 0 and true is 1
 abbrev pub flag : Bool → ℕ
@@ -19,14 +19,6 @@ long_bytes n = varlong_bytes n
 -- a long of how many bytes there are, and the bytes
 abbrev pub sized : List ℕ → List ℕ
 sized bs = long_bytes (pos (length bs)) ++ bs
-
-abbrev pub size_of : Values → ℕ
-size_of no_values = 0
-size_of (value v vs) = suc (size_of vs)
-
-abbrev pub count_of : Entries → ℕ
-count_of no_entries = 0
-count_of (entry key v es) = suc (count_of es)
 
 -- a block of so many items, and the end; where there are no items, the end alone
 abbrev pub one_block : ℕ → List ℕ → List ℕ

@@ -1,5 +1,5 @@
 -- Reading a datum from left to right, with the first place at which reading stops (Apache Avro 1.11 specification, "Binary Encoding").
-use Rattle.std.specs.Prelude.{ℕ, zero, suc, ℤ, pos, negsuc, ◌≡◌, ◌-◌, ◌^◌, ◌⊎◌, List, [], ◌∷◌, ◌++◌, length, take, drop, Option, Some, None, Result, Ok, Err, Bool, true, false, ◌&&◌, ◌==◌, nat_le, nat_lt, if◌then◌else◌}
+use Rattle.std.specs.Prelude.{ℕ, zero, suc, ℤ, pos, negsuc, ◌≡◌, ◌-◌, ◌^◌, List, [], ◌∷◌, ◌++◌, length, take, drop, Option, Some, None, Result, Ok, Err, Bool, true, false, ◌&&◌, ◌==◌, nat_le, nat_lt, if◌then◌else◌}
 use Rattle.std.specs.Str.{is_utf8}
 use Rattle.wire_prim.specs.declared.error.PrimNo.{PrimNo}
 use Rattle.wire_prim.specs.declared.error.PrimNo.TheVariants as item
@@ -7,11 +7,12 @@ use Rattle.wire_prim.specs.Behind.{Behind}
 use Rattle.wire_prim.specs.Varint.{varint_at, behind_varint, behind_varlong}
 use Rattle.avro_schema.specs.Types as schema
 use Rattle.avro_schema.specs.Types.{AvroType, Branches, Fields, resolved}
-use Rattle.avro_codec.specs.declared.error.AvroNo.{AvroNo}
-use Rattle.avro_codec.specs.declared.error.AvroNo.TheVariants.{Mismatch, Range, Short, Rest, BadUtf8, TooDeep, TooMany, Want}
+use Rattle.avro_datum.specs.declared.error.AvroNo.{AvroNo}
+use Rattle.avro_datum.specs.declared.error.AvroNo.TheVariants.{Mismatch, Range, Short, Rest, BadUtf8, TooDeep, TooMany, Want}
 use Rattle.avro_codec.specs.declared.cursor.Head.{Head}
-use Rattle.avro_codec.specs.Value.{Value, Entry, null, boolean, int, long, bytes, string, fixed, symbol, branch, fields, items, entries, values_of, entries_of, max_levels, max_nodes}
-use Rattle.avro_codec.specs.Spelling.{branch_at}
+use Rattle.avro_datum.specs.Steps.{◌>>=◌, Fails}
+use Rattle.avro_datum.specs.Value.{Value, Entry, null, boolean, int, long, bytes, string, fixed, symbol, branch, fields, items, entries, values_of, entries_of, max_levels, max_nodes}
+use Rattle.avro_datum.specs.Judging.{branch_at}
 
 -- the number of the node that comes next, and the bytes that are left
 pub record Place : Type 0 where
@@ -21,11 +22,6 @@ pub record Place : Type 0 where
 -- what was read and the place behind it, or why nothing was
 abbrev pub Read : Type 0 → Type 0
 Read A = Result (A × Place) AvroNo
-
-infixl 10 ◌>>=◌
-abbrev pub ◌>>=◌ : {A B : Type 0} → Result A AvroNo → (A → Result B AvroNo) → Result B AvroNo
-(Ok x) >>= f = f x
-(Err e) >>= f = Err e
 
 abbrev pub behind : ℕ → List ℕ → Place
 behind next left = record { next = next; left = left }
@@ -201,10 +197,6 @@ ended v = if length v.1.left == 0 then Ok v.0 else Err Rest
 -- a datum of the schema, all of the bytes
 unfoldable pub datum_at : AvroType → List ℕ → Result Value AvroNo
 datum_at whole bs = value_at whole max_levels whole (behind 0 bs) >>= ended
-
--- the cause is the one that the bytes give, or want of memory
-abbrev pub Fails : {Y : Type 0} → AvroNo → Result Y AvroNo → Type 0
-Fails e read = (e ≡ Want) ⊎ (read ≡ Err e)
 
 -- the answer, seen by view, is what reading gives, and the place is the one behind it
 abbrev pub Reads : {X Y : Type 0} → (X → Y) → Result X AvroNo → Read Y → Place → Type 0

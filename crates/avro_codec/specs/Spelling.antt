@@ -1,12 +1,13 @@
 -- Which bytes spell a value of a type (Apache Avro 1.11 specification, "Binary Encoding").
-use Rattle.std.specs.Prelude.{ℕ, zero, suc, ℤ, pos, negsuc, ◌≡◌, ◌<◌, ◌^◌, ◌⊎◌, List, [], ◌∷◌, ◌++◌, length, Option, Some, None, true, FitsSigned}
+use Rattle.std.specs.Prelude.{ℕ, suc, ℤ, pos, negsuc, ◌≡◌, ◌<◌, ◌^◌, ◌⊎◌, List, [], ◌∷◌, ◌++◌, length, Some, true, FitsSigned}
 use Rattle.std.specs.List.{flat_map, AllByRecursion}
 use Rattle.std.specs.Int.{w32, w64}
 use Rattle.std.specs.Str.{is_utf8}
 use Rattle.wire_prim.specs.Varint.{IsVarint}
 use Rattle.avro_schema.specs.Types as schema
 use Rattle.avro_schema.specs.Types.{AvroType, Branches, Fields, resolved}
-use Rattle.avro_codec.specs.Value.{Value, Values, Entries, null, boolean, int, long, bytes, string, fixed, symbol, branch, fields, items, entries, no_values, value, no_entries, entry}
+use Rattle.avro_datum.specs.Value.{Value, Values, Entries, null, boolean, int, long, bytes, string, fixed, symbol, branch, fields, items, entries, no_values, value, no_entries, entry}
+use Rattle.avro_datum.specs.Judging.{branch_at}
 use Rattle.avro_codec.specs.Plain.{flag}
 
 -- an int: a zigzag varint of at most 5 bytes
@@ -60,12 +61,6 @@ pub record AreBlocks (pieces : List (List ℕ)) (bs : List ℕ) : Type 0 where
   pub ends : IsLong (pos 0) end
   pub all : flat_map pieces_of blocks ≡ pieces
   pub is : bs ≡ flat_map block_bytes blocks ++ end
-
--- the type of the branch at a place
-abbrev pub branch_at : Branches → ℕ → Option AvroType
-branch_at schema.no_branches n = None
-branch_at (schema.branch t ts) zero = Some t
-branch_at (schema.branch t ts) (suc n) = branch_at ts n
 
 -- the bytes spell the value, of this type in the whole schema
 abbrev mutual

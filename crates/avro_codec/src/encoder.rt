@@ -3,21 +3,21 @@ ghost use Rattle.std.specs.Prelude.{◌≡◌, ◌++◌, ◌<◌, ◌≤◌, ◌
 ghost use Rattle.avro_schema.specs.Types.{AvroType, resolved};
 ghost use Rattle.avro_schema.specs.Nodes.{HasNode, Stands, tree_of};
 ghost use Rattle.avro_codec.specs.Spelling.{IsDatum};
-ghost use Rattle.avro_codec.specs.declared.error.AvroNo.TheVariants.{Want};
-ghost use Rattle.avro_codec.specs.Value.{IsSmall, item_of, value_of, values_of, entries_of};
-ghost use Rattle.avro_codec.specs.Value as shapes;
+ghost use Rattle.avro_datum.specs.declared.error.AvroNo.TheVariants.{Want};
+ghost use Rattle.avro_datum.specs.Value.{IsSmall, item_of, value_of, values_of, entries_of};
+ghost use Rattle.avro_datum.specs.Value as shapes;
 ghost use Rattle.avro_codec.specs.Plain.{plain, plain_entry};
-ghost use Rattle.avro_codec.specs.Judging.{Judges, judged, judged_entry, verdict};
-ghost use Rattle.avro_codec.specs.Reading.{Fails};
+ghost use Rattle.avro_datum.specs.Judging.{Judges, judged, judged_entry, verdict};
+ghost use Rattle.avro_datum.specs.Steps.{Fails};
 
-use crate::datum::{Datum, MapItem};
-use crate::error::AvroNo;
 use crate::leaf::{
-    leaf, open, put_boolean, put_bytes, put_fixed, put_int, put_key, put_long, put_long_bytes,
-    put_sized, put_symbol, put_text,
+    put_boolean, put_bytes, put_fixed, put_int, put_key, put_long, put_long_bytes, put_sized,
+    put_symbol, put_text,
 };
-use crate::limits::MAX_LEVELS;
-use crate::pick::{branch_in, entries_in, fields_in, is_null, items_in};
+use avro_datum::level::{leaf, open};
+use avro_datum::limits::MAX_LEVELS;
+use avro_datum::pick::{branch_in, entries_in, fields_in, is_null, items_in};
+use avro_datum::{AvroNo, Datum, MapItem};
 use avro_schema::Schema;
 use std::alloc::Global;
 
@@ -200,7 +200,7 @@ fn put_node(
 }
 
 // The plain spelling, or the first refusal.
-#[tactic(auto, unfolding(crate::specs::Judging::verdict))]
+#[tactic(auto, unfolding(avro_datum::specs::Judging::verdict))]
 fn write_all(alloc: Global, schema: &Schema, datum: &Datum) -> Result<Vec<u8>, AvroNo>
     ensures value { IfOk result (λ out. out.items ≡ plain (value_of datum.now)) }
     ensures verdict { MatchResult result

@@ -4,44 +4,16 @@ ghost use Rattle.std.specs.Str.{is_utf8};
 ghost use Rattle.avro_schema.specs.Types.{AvroType, resolved};
 ghost use Rattle.avro_schema.specs.Nodes.{HasNode, Stands, tree_of};
 ghost use Rattle.avro_codec.specs.Plain.{flag, int_bytes, long_bytes, sized};
-ghost use Rattle.avro_codec.specs.Judging.{Judges, opened, is_below};
-ghost use Rattle.avro_codec.specs.Judging as judging;
-ghost use Rattle.avro_codec.specs.declared.error.AvroNo.TheVariants.{Mismatch, Want};
+ghost use Rattle.avro_datum.specs.Judging.{Judges, opened, is_below};
+ghost use Rattle.avro_datum.specs.Judging as judging;
+ghost use Rattle.avro_datum.specs.declared.error.AvroNo.TheVariants.{Mismatch, Want};
 
-use crate::error::AvroNo;
-use crate::limits::MAX_NODES;
-use crate::pick::{has_symbol, is_boolean, is_bytes, is_fixed, is_int, is_long, is_string};
+use avro_datum::AvroNo;
+use avro_datum::level::leaf;
+use avro_datum::pick::{has_symbol, is_boolean, is_bytes, is_fixed, is_int, is_long, is_string};
 use avro_schema::Schema;
 use gate_io::Text;
 use wire_prim::{put_varint, put_varlong};
-
-/// The number behind a node without parts that holds or doesn't.
-pub(crate) fn leaf(next: u32, holds: bool) -> Result<u32, AvroNo>
-    ensures { Judges result (judging.leaf next holds) }
-{
-    if next >= MAX_NODES {
-        return Err(AvroNo::TooMany);
-    }
-    if holds {
-        Ok(next + 1)
-    } else {
-        Err(AvroNo::Mismatch(next))
-    }
-}
-
-/// The levels below a node with parts.
-pub(crate) fn open(levels: u32, next: u32) -> Result<u32, AvroNo>
-    ensures verdict { Judges result (opened levels next) }
-    ensures below { IfOk result (λ below. levels ≡ suc below) }
-{
-    if levels == 0 {
-        return Err(AvroNo::TooDeep);
-    }
-    if next >= MAX_NODES {
-        return Err(AvroNo::TooMany);
-    }
-    Ok(levels - 1)
-}
 
 #[tactic(auto, unfolding(crate::specs::Plain::int_bytes))]
 pub(crate) fn put_int_bytes(out: &mut Vec<u8>, value: i32) -> Result<(), AvroNo>

@@ -2,19 +2,16 @@
 #![tactic(auto)]
 
 mod cursor;
-mod datum;
 mod decoder;
 mod encoder;
-mod error;
+#[cfg(test)]
+mod json_tests;
 mod law;
 mod leaf;
-mod limits;
-mod pick;
 #[cfg(test)]
 mod tests;
 
-pub use datum::{Datum, MapItem};
+pub use avro_datum::{AvroNo, Datum, MapItem};
 pub use decoder::decode;
 pub use encoder::encode;
-pub use error::AvroNo;
 pub use law::no_spelling_begins_another;

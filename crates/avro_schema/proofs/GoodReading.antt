@@ -113,7 +113,7 @@ mutual
   fields_good_more m names seen (field name t fs) now g = (g.0, g.1, g.2, good_more m false names t g.0 g.3, fields_good_more m g.0 (seen ++ (name ∷ [])) fs now g.4)
 
 mutual
-  within_more : (l : ℕ) (j : Json) → IsWithin l j → IsWithin (suc l) j
+  pub within_more : (l : ℕ) (j : Json) → IsWithin l j → IsWithin (suc l) j
   within_more l null w = tt
   within_more l (boolean b) w = tt
   within_more l (number s) w = tt

@@ -24,3 +24,5 @@ pub mod Again
 pub mod Spells
 pub mod GoodReading
 pub mod ReadBack
+pub mod DistinctNames
+pub mod NamesRead

@@ -14,22 +14,25 @@ use Rattle.avro_schema.proofs.Spells.{form_laid}
 use Rattle.avro_schema.proofs.GoodReading.{reader_good}
 
 -- what was read, and that it is short enough
-record Whole (canonical : Bool) (j : Json) (t : AvroType) : Type 0 where
-  r : Read AvroType
-  is : reader canonical 64 false [] [] j ≡ Ok r
-  short : short_enough r.value ≡ Ok t
+pub record Whole (canonical : Bool) (j : Json) (t : AvroType) : Type 0 where
+  pub r : Read AvroType
+  pub is : reader canonical 64 false [] [] j ≡ Ok r
+  pub short : short_enough r.value ≡ Ok t
 
 whole_by : (canonical : Bool) (j : Json) (t : AvroType) (o : Result (Read AvroType) SchemaNo) → reader canonical 64 false [] [] j ≡ o → next o (λ (x : Read AvroType). short_enough x.value) ≡ Ok t → Whole canonical j t
 whole_by canonical j t (Ok r) e h = record { r = r; is = e; short = h }
 whole_by canonical j t (Err x) e h = absurd cc
 
-whole : (canonical : Bool) (j : Json) (t : AvroType) → schema_of canonical j ≡ Ok t → Whole canonical j t
+pub whole : (canonical : Bool) (j : Json) (t : AvroType) → schema_of canonical j ≡ Ok t → Whole canonical j t
 unfolding schema_of
 whole canonical j t h = whole_by canonical j t (reader canonical 64 false [] [] j) refl h
 
 short_by : (u t : AvroType) (b : Bool) → cond b (Ok u) (Err TooLong) ≡ Ok t → u ≡ t
 short_by u t true h = cc
 short_by u t false h = absurd cc
+
+pub short_is : (u t : AvroType) → short_enough u ≡ Ok t → u ≡ t
+short_is u t h = short_by u t (nat_le (length (canonical_form u)) 65536) h
 
 schema_again : (j : Json) (r : Read AvroType) (t : AvroType) → reader true 64 false [] [] j ≡ Ok r → short_enough r.value ≡ Ok t → schema_of true j ≡ Ok t
 unfolding schema_of
@@ -39,7 +42,7 @@ schema_again j r t e h = ap (λ o. next o (λ (x : Read AvroType). short_enough 
 pub form_reads : (canonical : Bool) (j : Json) (r : Read AvroType) (t : AvroType) → IsWithin max_levels j → reader canonical 64 false [] [] j ≡ Ok r → short_enough r.value ≡ Ok t → ReadsAs true (canonical_form t) t
 form_reads canonical j r t within is short =
     let g = reader_good canonical 64 false [] [] j r tt is in
-    let same : r.value ≡ t = short_by r.value t (nat_le (length (canonical_form r.value)) 65536) short in
+    let same : r.value ≡ t = short_is r.value t short in
     let P : AvroType → Type 0 = λ x. IsText max_levels (canonical_form x) (json_of x) × (schema_of true (json_of x) ≡ Ok t) in
     let both : P t = subst P same
     ((g.within max_levels within, form_laid 64 false [] r.value r.names g.good), schema_again (json_of r.value) r t (again 64 false [] [] r.value r.names g.good) short) in

@@ -7,3 +7,4 @@ pub mod Forms
 pub mod Nodes
 pub mod Picks
 pub mod Building
+pub mod Distinct

@@ -17,6 +17,6 @@ mod schema;
 mod tests;
 
 pub use error::SchemaNo;
-pub use law::canonical_forms_read_back;
+pub use law::{canonical_forms_read_back, names_of_a_schema_differ};
 pub use parts::Field;
 pub use schema::{Kind, Schema};

@@ -2,6 +2,7 @@ ghost use Rattle.std.specs.Prelude.{◌≡◌, ◌<◌, ℕ, List, length};
 ghost use Rattle.avro_schema.specs.Types.{AvroType, Branches, Fields, union, enum_, record_, branch_name};
 ghost use Rattle.avro_schema.specs.Nodes.{tree_of, Stands, HasNode, Resolves, StandForBranches, StandForFields, IsKindOf, IsOfKind};
 ghost use Rattle.avro_schema.specs.Forms.{IsSchema, IsFormOf};
+ghost use Rattle.avro_schema.specs.Distinct.{HasNames};
 
 use crate::parts::{Definition, Field, Form};
 use crate::pick::{branches_in, fields_in, kind_in, name_in, symbols_in};
@@ -28,6 +29,13 @@ impl Schema {
         ensures { Stands self.now result (tree_of self.now) }
     {
         self.parts.root
+    }
+
+    /// The names of a union's branches, an enum's symbols and a record's fields differ.
+    pub fn names_differ(&self)
+        ensures { HasNames (tree_of self.now) }
+    {
+        let _parts = &self.parts;
     }
 
     /// What the node is.

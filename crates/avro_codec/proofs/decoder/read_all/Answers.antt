@@ -1,7 +1,8 @@
 use Rattle.std.proofs.Common.{◌≡◌, Ok, subst}
 use Rattle.avro_schema.specs.Nodes.{tree_of}
-use Rattle.avro_codec.specs.Value.{value_of, max_levels}
-use Rattle.avro_codec.specs.Reading.{Place, Fails, value_at}
+use Rattle.avro_datum.specs.Value.{value_of, max_levels}
+use Rattle.avro_codec.specs.Reading.{Place, value_at}
+use Rattle.avro_datum.specs.Steps.{Fails}
 use Rattle.avro_codec.proofs.DecodeLemmas.{datum_read, datum_stop, datum_more}
 use Rattle.avro_codec.proofs.decoder.read_all.Goals as goal
 

@@ -4,13 +4,14 @@ use Rattle.std.proofs.lemmas.Int.{to_z-of_z}
 use Rattle.avro_schema.specs.Types as schema
 use Rattle.avro_schema.specs.Types.{AvroType, resolved}
 use Rattle.avro_schema.specs.Nodes.{IsOfKind, tree_of}
-use Rattle.avro_codec.specs.Value.{Value, Entry, item_of, value_of, values_of, entries_of}
-use Rattle.avro_codec.specs.Value as shapes
-use Rattle.avro_codec.specs.Picks.{is_nesting}
+use Rattle.avro_datum.specs.Value.{Value, Entry, item_of, value_of, values_of, entries_of}
+use Rattle.avro_datum.specs.Value as shapes
+use Rattle.avro_datum.specs.Picks.{is_nesting}
 use Rattle.avro_codec.specs.Reading.{all_blocks, weighs, union_at, entry_at, fields_at, many, value_at, with_front}
-use Rattle.avro_codec.proofs.EncodeLemmas.{rest_is, none_left}
-use Rattle.avro_codec.proofs.PickLemmas.{resolves_is}
-use Rattle.avro_codec.proofs.DecodeLemmas.{many_go, many_stop, many_done, blocks_go, blocks_unlike, blocks_stop, blocks_headless, blocks_done, fields_go, fields_stop, fields_done, entry_read, entry_keyless, entry_stop, union_at_branch, union_lacks, picked_read, picked_stop, nests_is, node_enters, node_stops, room_is, body_is, giving_read, giving_stop, fields_site, branch_site, branch_made, place_is, FieldsRead, reads_along, stop_along}
+use Rattle.avro_datum.proofs.NodeLemmas.{rest_is, none_left}
+use Rattle.avro_datum.proofs.PickLemmas.{resolves_is}
+use Rattle.avro_codec.proofs.DecodeLemmas.{many_go, many_stop, many_done, blocks_go, blocks_unlike, blocks_stop, blocks_headless, blocks_done, fields_go, fields_stop, fields_done, entry_read, entry_keyless, entry_stop, union_at_branch, union_lacks, picked_read, picked_stop, nests_is, node_enters, node_stops, room_is, body_is, giving_read, giving_stop, fields_site, branch_site, branch_made, place_is, FieldsRead, reads_along}
+use Rattle.avro_datum.proofs.NodeLemmas.{fails_along}
 use Rattle.avro_codec.proofs.cursor.Cursor.+decoder.Goals as goal
 
 pub more_items-loop-left-preserved : goal.more_items-loop-left-preserved
@@ -155,7 +156,7 @@ branch-returns-in-Err-value-clause-value t c ts stand =
     let place = place_is c.in-Ok.place c.in-Ok-try_from.place a.0 a.1 in
     let at : slice_get c.args.branches.now c.in-Ok-try_from.place ≡ Some c.in-Some.branch.now = sym c.in-Some.ensures in
     let b = union_at_branch s c.args.branches.now ts inner c.args.node c.args.self.now c.in-Ok.place c.in-Ok-try_from.place c.long.new.self c.in-Some.branch.now place.0 place.1 c.in-Ok.ensures.value at stand in
-    stop_along c.in-Err-value.e _ _ (sym b.2) (picked_stop inner c.args.node c.in-Ok-try_from.place b.0 c.long.new.self c.in-Err-value.e (c.in-Err-value.ensures.value b.0 b.1))
+    fails_along c.in-Err-value.e _ _ (sym b.2) (picked_stop inner c.args.node c.in-Ok-try_from.place b.0 c.long.new.self c.in-Err-value.e (c.in-Err-value.ensures.value b.0 b.1))
 
 pub branch-returns-in_default-at-clause-value : goal.branch-returns-in_default-at-clause-value
 branch-returns-in_default-at-clause-value t c ts stand =
@@ -183,7 +184,7 @@ body-returns-in-Err-clause-value t c t' stands =
     let s = c.args.schema.now in
     let e = subst (λ k. IsOfKind s c.args.place k) c.in-Array.is c.requires.kind in
     let some = room_is c.args.levels (is_nesting c.args.kind) (ap is_nesting c.in-Array.is) c.requires.room in
-    stop_along c.in-Err.e _ _ (sym (body_is (tree_of s) c.args.levels c.args.node (resolved (tree_of s) t') (schema.array e.0) c.args.self.now some (resolves_is s c.args.place t' (schema.array e.0) stands e.1)))
+    fails_along c.in-Err.e _ _ (sym (body_is (tree_of s) c.args.levels c.args.node (resolved (tree_of s) t') (schema.array e.0) c.args.self.now some (resolves_is s c.args.place t' (schema.array e.0) stands e.1)))
     (giving_stop (λ vs. shapes.items (values_of vs)) (all_blocks c.args.node (value_at (tree_of s) (c.args.levels - 1) e.0) c.args.self.now) c.in-Err.e (c.in-Err.ensures.value e.0 e.2))
 
 pub body-returns-in-Ok-entries-clause-value : goal.body-returns-in-Ok-entries-clause-value
@@ -200,7 +201,7 @@ body-returns-in-Err-entries-clause-value t c t' stands =
     let s = c.args.schema.now in
     let e = subst (λ k. IsOfKind s c.args.place k) c.in-Map.is c.requires.kind in
     let some = room_is c.args.levels (is_nesting c.args.kind) (ap is_nesting c.in-Map.is) c.requires.room in
-    stop_along c.in-Err-entries.e _ _ (sym (body_is (tree_of s) c.args.levels c.args.node (resolved (tree_of s) t') (schema.map e.0) c.args.self.now some (resolves_is s c.args.place t' (schema.map e.0) stands e.1)))
+    fails_along c.in-Err-entries.e _ _ (sym (body_is (tree_of s) c.args.levels c.args.node (resolved (tree_of s) t') (schema.map e.0) c.args.self.now some (resolves_is s c.args.place t' (schema.map e.0) stands e.1)))
     (giving_stop (λ es. shapes.entries (entries_of es)) (all_blocks c.args.node (entry_at (value_at (tree_of s) (c.args.levels - 1)) c.args.node e.0) c.args.self.now) c.in-Err-entries.e (c.in-Err-entries.ensures.value e.0 e.2))
 
 pub body-returns-in-Ok-fields-clause-value : goal.body-returns-in-Ok-fields-clause-value
@@ -219,7 +220,7 @@ body-returns-in-Err-fields-clause-value t c t' stands =
     let e = subst (λ k. IsOfKind s c.args.place k) c.in-Record.is c.requires.kind in
     let some = room_is c.args.levels (is_nesting c.args.kind) (ap is_nesting c.in-Record.is) c.requires.room in
     let stand = c.fields.ensures e.0 e.1 e.2 in
-    stop_along c.in-Err-fields.e _ _ (sym (body_is (tree_of s) c.args.levels c.args.node (resolved (tree_of s) t') (schema.record_ e.0 e.1) c.args.self.now some (resolves_is s c.args.place t' (schema.record_ e.0 e.1) stands e.2)))
+    fails_along c.in-Err-fields.e _ _ (sym (body_is (tree_of s) c.args.levels c.args.node (resolved (tree_of s) t') (schema.record_ e.0 e.1) c.args.self.now some (resolves_is s c.args.place t' (schema.record_ e.0 e.1) stands e.2)))
     (giving_stop (λ vs. shapes.fields (values_of vs)) (fields_at (value_at (tree_of s) (c.args.levels - 1)) e.1 c.args.self.now) c.in-Err-fields.e (c.in-Err-fields.ensures.value e.1 stand))
 
 pub body-returns-in-Union-clause-value : goal.body-returns-in-Union-clause-value

@@ -1,0 +1,8 @@
+pub mod Value
+pub mod Steps
+pub mod Judging
+pub mod Picks
+pub mod Encoding
+pub mod Reading
+pub mod Shown
+pub mod Parts

@@ -1,0 +1,207 @@
+//! Values without parts from nodes of a JSON tree. A `number` is the datum's node, counted in preorder.
+ghost use Rattle.std.specs.Prelude.{◌≡◌, ◌^◌, ℕ, suc, if◌then◌else◌, MatchResult};
+ghost use Rattle.std.specs.List.{list_all};
+ghost use Rattle.json_span.specs.Json.{Json};
+ghost use Rattle.json_span.specs.Nodes.{HasNode, Stands};
+ghost use Rattle.json_span.specs.Number.{is_digit};
+ghost use Rattle.avro_datum.specs.declared.error.AvroNo.TheVariants.{Mismatch, Range};
+ghost use Rattle.avro_datum.specs.Encoding as encoding;
+ghost use Rattle.avro_datum.specs.Parts.{Gives};
+ghost use Rattle.avro_datum.specs.Reading.{fixed_at, flag_at, integer_at, null_at, points_at, points_of, ranged, symbol_at, text_at};
+ghost use Rattle.avro_datum.specs.Reading as reading;
+ghost use Rattle.avro_datum.specs.Steps.{Fails};
+ghost use Rattle.avro_datum.specs.Value as shapes;
+
+use crate::error::AvroNo;
+use gate_io::Text;
+use json_span::{Kind, Tree};
+use std::alloc::Global;
+
+/// Fails unless the node is null.
+pub(crate) fn null_in(tree: &Tree, node: u32, number: u32) -> Result<(), AvroNo>
+    requires { HasNode tree.now node }
+    ensures { (j : Json) → Stands tree.now node j → Gives (λ _. (shapes.null, suc number)) result (null_at number j) }
+{
+    match tree.kind(node) {
+        Kind::Null => Ok(()),
+        _ => Err(AvroNo::Mismatch(number)),
+    }
+}
+
+pub(crate) fn flag_in(tree: &Tree, node: u32, number: u32) -> Result<bool, AvroNo>
+    requires { HasNode tree.now node }
+    ensures { (j : Json) → Stands tree.now node j → Gives (λ b. b) result (flag_at number j) }
+{
+    match tree.kind(node) {
+        Kind::Bool(value) => Ok(value),
+        _ => Err(AvroNo::Mismatch(number)),
+    }
+}
+
+fn are_digits(text: &[u8]) -> bool
+    ensures { result ≡ list_all is_digit text.now }
+{
+    text.iter().all(|b| b.is_ascii_digit())
+}
+
+/// Whether the text is digits behind at most one sign.
+fn is_whole(text: &[u8]) -> bool
+    ensures { result ≡ reading.is_whole text.now }
+{
+    if text.is_empty() {
+        return false;
+    }
+    if text[0] == b'-' {
+        are_digits(&text[1..])
+    } else {
+        are_digits(text)
+    }
+}
+
+/// Why a number isn't an integer: it is one that is too long, or it has a fraction or an exponent.
+fn no_integer(text: &[u8], number: u32) -> AvroNo
+    ensures { result ≡ (if reading.is_whole text.now then Range number else Mismatch number) }
+{
+    if is_whole(text) {
+        AvroNo::Range(number)
+    } else {
+        AvroNo::Mismatch(number)
+    }
+}
+
+/// The integer of at most 38 digits that a number is.
+fn integer_in(tree: &Tree, node: u32, number: u32) -> Result<i128, AvroNo>
+    requires { HasNode tree.now node }
+    ensures { (j : Json) → Stands tree.now node j → MatchResult result
+        (λ n. (bound : ℕ) → integer_at number bound j ≡ ranged number bound n)
+        (λ e. (bound : ℕ) → Fails e (integer_at number bound j)) }
+{
+    match tree.kind(node) {
+        Kind::Number => match tree.int_of(node) {
+            Some(value) => Ok(value),
+            None => Err(no_integer(tree.text_of(node).as_bytes(), number)),
+        },
+        _ => Err(AvroNo::Mismatch(number)),
+    }
+}
+
+pub(crate) fn int_in(tree: &Tree, node: u32, number: u32) -> Result<i32, AvroNo>
+    requires { HasNode tree.now node }
+    ensures { (j : Json) → Stands tree.now node j → Gives (λ n. n) result (integer_at number (2 ^ 31) j) }
+{
+    let value = match integer_in(tree, node, number) {
+        Ok(value) => value,
+        Err(e) => return Err(e),
+    };
+    match i32::try_from(value) {
+        Ok(value) => Ok(value),
+        Err(_) => Err(AvroNo::Range(number)),
+    }
+}
+
+pub(crate) fn long_in(tree: &Tree, node: u32, number: u32) -> Result<i64, AvroNo>
+    requires { HasNode tree.now node }
+    ensures { (j : Json) → Stands tree.now node j → Gives (λ n. n) result (integer_at number (2 ^ 63) j) }
+{
+    let value = match integer_in(tree, node, number) {
+        Ok(value) => value,
+        Err(e) => return Err(e),
+    };
+    match i64::try_from(value) {
+        Ok(value) => Ok(value),
+        Err(_) => Err(AvroNo::Range(number)),
+    }
+}
+
+pub(crate) fn text_in<'a>(tree: &'a Tree, node: u32, number: u32) -> Result<&'a str, AvroNo>
+    requires { HasNode tree.now node }
+    ensures { (j : Json) → Stands tree.now node j → Gives (λ text. text.now) result (text_at number j) }
+{
+    match tree.kind(node) {
+        Kind::Text => Ok(tree.string_of(node)),
+        _ => Err(AvroNo::Mismatch(number)),
+    }
+}
+
+/// The bytes that a text's code points are.
+fn points(alloc: Global, text: &str, number: u32) -> Result<Vec<u8>, AvroNo>
+    ensures { Gives (λ bytes. bytes.items) result (points_of number text.now) }
+{
+    let mut out = Vec::with_capacity(alloc, text.len())?;
+    if text.is_ascii() {
+        out.extend_from_slice(text.as_bytes())?;
+        return Ok(out);
+    }
+    for c in text.chars() {
+        let Ok(byte) = u8::try_from(c) else {
+            return Err(AvroNo::Mismatch(number));
+        };
+        out.push(byte)?;
+    }
+    Ok(out)
+}
+
+pub(crate) fn points_in(
+    alloc: Global,
+    tree: &Tree,
+    node: u32,
+    number: u32,
+) -> Result<Vec<u8>, AvroNo>
+    requires { HasNode tree.now node }
+    ensures { (j : Json) → Stands tree.now node j → Gives (λ bytes. bytes.items) result (points_at number j) }
+{
+    match text_in(tree, node, number) {
+        Ok(text) => points(alloc, text, number),
+        Err(e) => Err(e),
+    }
+}
+
+pub(crate) fn fixed_in(
+    alloc: Global,
+    tree: &Tree,
+    node: u32,
+    number: u32,
+    size: u32,
+) -> Result<Vec<u8>, AvroNo>
+    requires { HasNode tree.now node }
+    ensures { (j : Json) → Stands tree.now node j → Gives (λ bytes. bytes.items) result (fixed_at number size j) }
+{
+    let bytes = match points_in(alloc, tree, node, number) {
+        Ok(bytes) => bytes,
+        Err(e) => return Err(e),
+    };
+    if bytes.len() == size as usize {
+        Ok(bytes)
+    } else {
+        Err(AvroNo::Mismatch(number))
+    }
+}
+
+/// The place of the first symbol that is the text.
+fn place_of(symbols: &[Text], name: &str) -> Option<usize>
+    ensures { result ≡ encoding.place_of name.now symbols.now }
+{
+    symbols.iter().position(|symbol| symbol.as_str() == name)
+}
+
+pub(crate) fn symbol_in(
+    symbols: &[Text],
+    tree: &Tree,
+    node: u32,
+    number: u32,
+) -> Result<u32, AvroNo>
+    requires { HasNode tree.now node }
+    ensures { (j : Json) → Stands tree.now node j → Gives (λ place. place) result (symbol_at number symbols.now j) }
+{
+    let name = match text_in(tree, node, number) {
+        Ok(name) => name,
+        Err(e) => return Err(e),
+    };
+    let Some(place) = place_of(symbols, name) else {
+        return Err(AvroNo::Mismatch(number));
+    };
+    match u32::try_from(place) {
+        Ok(place) => Ok(place),
+        Err(_) => Err(AvroNo::Mismatch(number)),
+    }
+}
