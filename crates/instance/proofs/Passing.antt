@@ -1,9 +1,9 @@
 -- Calls of a link one after the other.
-use Rattle.std.proofs.Common.{◌≡◌, ℕ, length, List, [], ◌∷◌, map, refl, ap, ◌∙◌, arith}
-use Rattle.std.specs.Prelude.{Result, bytes_eq, Bool, true, false}
-use Rattle.model.specs.Log.{TopicPart, Topic, Log, Keeps, IsLog, parts_in}
+use Rattle.std.proofs.Common.{◌≡◌, refl, ◌∙◌, arith}
+use Rattle.std.specs.Prelude.{Result}
+use Rattle.model.specs.Log.{Log, Keeps, IsLog}
 use Rattle.model.specs.Produced.{NoneAdded}
-use Rattle.model.specs.Fixed.{HasPart, SameCommits}
+use Rattle.model.specs.Fixed.{SameCommits}
 use Rattle.model.proofs.Stretches.{keeps_itself, keeps_on}
 use Rattle.broker_link.specs.Causes.{Counts, HasCause, ComesOf}
 use Rattle.broker_link.specs.Replies.{CountsKept}
@@ -63,21 +63,3 @@ pub comes_on : (c d e : Counts) (no : LinkNo) → CountsKept c d → ComesOf d e
 comes_on c d e Fault kept rose = omega (arith, rose)
 comes_on c d e (Refused code) kept rose = (rose.0, (omega (arith, rose.1.0), rose.1.1))
 comes_on c d e Want kept rose = tt
-
-same_head : (p q : List ℕ × ℕ) (xs ys : List (List ℕ × ℕ)) → p ∷ xs ≡ q ∷ ys → p ≡ q
-same_head p q xs ys e = cc e
-
--- a topic keeps its partitions
-pub part_kept : (a b : Log) (at : TopicPart) → Keeps a b → HasPart a at → HasPart b at
-part_kept a b at keeps has = let e = go a.topics b.topics keeps.shape in omega (arith, has, e)
-  where
-    go : (xs ys : List Topic) → map {B = List ℕ × ℕ} (λ (t : Topic). (t.name, length t.parts)) ys ≡ map {B = List ℕ × ℕ} (λ (t : Topic). (t.name, length t.parts)) xs → length (parts_in ys at.topic) ≡ length (parts_in xs at.topic)
-    go [] [] e = refl
-    go [] (y ∷ ys) e = absurd (cc e)
-    go (x ∷ xs) [] e = absurd (cc e)
-    go (x ∷ xs) (y ∷ ys) e = both (bytes_eq x.name at.topic) refl (go xs ys (cc e)) (ap (λ (q : List ℕ × ℕ). q.0) (same_head (y.name, length y.parts) (x.name, length x.parts) _ _ e)) (ap (λ (q : List ℕ × ℕ). q.1) (same_head (y.name, length y.parts) (x.name, length x.parts) _ _ e))
-      where
-        both : (t : Bool) → bytes_eq x.name at.topic ≡ t → length (parts_in ys at.topic) ≡ length (parts_in xs at.topic) → y.name ≡ x.name → length y.parts ≡ length x.parts
-            → length (parts_in (y ∷ ys) at.topic) ≡ length (parts_in (x ∷ xs) at.topic)
-        both true f rest name count = rw (name, f) count
-        both false f rest name count = rw (name, f) rest

@@ -20,7 +20,7 @@ use Rattle.instance.specs.Gathering.{AreSet, AreTold, EdgesTold, GotFrom, HaveAl
 use Rattle.instance.proofs.Gathering.{before_is_other}
 use Rattle.instance.proofs.Resetting.{told_on}
 use Rattle.instance.proofs.Moving.{order_kept}
-use Rattle.instance.proofs.Passing.{part_kept}
+use Rattle.instance.proofs.Fixing.{has_part_later}
 
 abbrev Apart : List Place → Type 0
 Apart ps = AllPairs (λ (p q : Place). is_at p.at q.at ≡ false) ps
@@ -192,7 +192,7 @@ have_set a b places places2 keeps same have = λ k d lt.
     let fits : k < length places = omega (arith, lt, long) in
     let there : (slice_index_or places k d).at ≡ (slice_index_or places2 k d).at =
     sym (get_or-map (λ (p : Place). p.at) places k d d.at fits) ∙ (ap (λ (ats : List TopicPart). slice_index_or ats k d.at) (sym same) ∙ get_or-map (λ (p : Place). p.at) places2 k d d.at lt) in
-    subst (HasPart b) there (part_kept a b (slice_index_or places k d).at keeps (have k d fits))
+    subst (HasPart b) there (has_part_later a b (slice_index_or places k d).at keeps (have k d fits))
 
 pub set_is : (t2 : Type 0) (edge : Edge) (s m : Log) (places : List Place) (fetched : List Fetched) (events : List CodeEvent) (places2 : List Place) → IsInOrder places
     → (set : AreSet t2 edge s places fetched events m places2) → places2 ≡ with_positions (news_of places set.told) places

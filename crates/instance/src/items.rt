@@ -1,5 +1,4 @@
 ghost use Rattle.std.specs.Prelude.{◌≡◌, ◌++◌, ◌<◌, ◌^◌, List, [], cond, codes, length, map, nat_abs, string_bytes, All, IfOk, OnOk};
-ghost use Rattle.json.specs.Print.{quoted};
 ghost use Rattle.model.specs.Bodies.{array, item_text};
 ghost use Rattle.model.specs.World.Format.{Binary};
 ghost use Rattle.instance.specs.Acting.{forms};
@@ -7,12 +6,12 @@ ghost use Rattle.instance.specs.Items.{bytes_text, front_text, place_text, quote
 ghost use Rattle.instance.specs.Lots.{HasRow, IsPick, item_in, lots_of, seen, stored_in};
 
 use crate::Place;
+use crate::quote::quoted_text;
 use crate::walk::{Lots, Pick, Walk};
 use base64::engine::general_purpose::STANDARD;
 use broker_link::{Fetched, Stored};
 use gate_io::{Items, Text};
 use itoa::Buffer;
-use serde_json::Value;
 use std::alloc::{AllocError, Global};
 
 /// Room for what is written of a row besides its topic, its key and its value.
@@ -26,20 +25,13 @@ pub(crate) fn stored_at<'a>(fetched: &'a [Fetched], pick: Pick) -> &'a Stored
     &fetched[pick.lot].rows.as_slice()[pick.row]
 }
 
-fn quoted_text(alloc: Global, text: &str) -> Result<Text, AllocError>
-    ensures { IfOk result (λ t. t ≡ quoted text.now) }
-{
-    let value = Value::try_from_str(alloc, text)?;
-    let quoted = value.to_string(alloc)?;
-    Ok(Text::from_string(quoted))
-}
-
 fn quoted_topics(alloc: Global, places: &[Place]) -> Result<Vec<Text>, AllocError>
     ensures { IfOk result (λ topics. topics.items ≡ quoted_topics places.now) }
 {
     let mut topics = Vec::with_capacity(alloc, places.len())?;
     for place in places {
-        topics.push(quoted_text(alloc, place.topic.as_str())?)?;
+        let topic = quoted_text(alloc, place.topic.as_str())?;
+        topics.push(Text::from_string(topic))?;
     }
     Ok(topics)
 }

@@ -6,7 +6,8 @@ use Rattle.model.specs.Log.{Log}
 use Rattle.broker_link.specs.Fetching.{edge_view}
 use Rattle.instance.specs.Gathering.{AreTold, EdgesTold, IsLowIf}
 use Rattle.instance.specs.Views.{place_of}
-use Rattle.instance.proofs.Passing.{passes_on, comes_on, part_kept}
+use Rattle.instance.proofs.Passing.{passes_on, comes_on}
+use Rattle.instance.proofs.Fixing.{has_part_later}
 use Rattle.instance.proofs.Resetting.{told_more, edges_told_more, has_at}
 use Rattle.instance.proofs.resets.tell_edges.Goals as goal
 
@@ -16,7 +17,7 @@ returns-in-Err-clause-passes g c = passes_on c.loop-i.invariant.passes c.tell_on
 pub returns-in-Err-clause-good : goal.returns-in-Err-clause-good
 returns-in-Err-clause-good g c = λ plain t have.
     let h = c.loop-i.invariant.passes in
-    let has = part_kept (g.L.Link.log c.args.link.now) (g.L.Link.log c.loop-i.link) (place_of c.index-places-i.result).at (h.keeps t) (has_at (g.L.Link.log c.args.link.now) c.args.places.now c.loop-i.i c.index-places-i.result have c.loop-i-test.true c.index-places-i.is) in
+    let has = has_part_later (g.L.Link.log c.args.link.now) (g.L.Link.log c.loop-i.link) (place_of c.index-places-i.result).at (h.keeps t) (has_at (g.L.Link.log c.args.link.now) c.args.places.now c.loop-i.i c.index-places-i.result have c.loop-i-test.true c.index-places-i.is) in
     c.in-Err.ensures.good (h.plainly plain) (h.telling t) has
 
 pub returns-in-Err-clause-cause : goal.returns-in-Err-clause-cause
