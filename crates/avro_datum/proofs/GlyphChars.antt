@@ -1,5 +1,5 @@
 -- What the writer prints for a character is characters of a string of JSON, and they stand for its bytes.
-use Rattle.std.proofs.Common.{◌≡◌, ℕ, ◌+◌, ◌/◌, ◌%◌, ◌<◌, ◌≤◌, ◌≢◌, ◌⊎◌, List, [], ◌∷◌, ◌++◌, Bool, true, false, cond, ◌==◌, ltb, nat_lt, inl, inr, refl, sym, ap, ap₂, ◌∙◌, subst, arith, append_assoc, append-nil}
+use Rattle.std.proofs.Common.{◌≡◌, ℕ, ◌+◌, ◌/◌, ◌%◌, ◌<◌, ◌≤◌, ◌≢◌, ◌⊎◌, List, [], ◌∷◌, ◌++◌, Bool, true, false, cond, ◌==◌, nat_lt, inl, inr, refl, sym, ap, ap₂, ◌∙◌, subst, arith, append_assoc, append-nil}
 use Rattle.std.proofs.lemmas.Bool.{cases_lt, ne_eqb, and_parts}
 use Rattle.std.proofs.lemmas.Bool.Decides.{nat_tests}
 use Rattle.std.proofs.lemmas.Grind.{flat_map-append}
@@ -11,6 +11,7 @@ use Rattle.json.specs.Print.{escape_letter, escape_byte, escape}
 use Rattle.json_span.specs.Chars.{IsChars, next_inside, after_plain, within, is_hex, is_short, is_high, short_escape, code_unit, char_bytes, content, content_behind}
 use Rattle.json_span.proofs.Escapes.{content_nil}
 use Rattle.json_span.proofs.Spelling.{chars_join}
+use Rattle.json_span.proofs.Utf8Lemmas.{encode_two, encode_three, encode_four}
 use lib.Utf8.{scalar, scalars, encode, encodes, next, low_scalar, scalar_cases}
 
 -- the characters s stand for the bytes
@@ -183,18 +184,6 @@ four_chars c low high = pick (cases_lt c 262144) (cases_lt c 1048576)
     pick (inl l) m = let e : 240 + c / 262144 ≡ 240 = omega arith in rw e (first_of_four (next (c / 4096)) (next (c / 64)) (next c) (omega arith, omega arith) (tail_is (c / 64)) (tail_is c))
     pick (inr l) (inl m) = four (240 + c / 262144) (next (c / 4096)) (next (c / 64)) (next c) (omega arith, omega arith) (tail_is (c / 4096)) (tail_is (c / 64)) (tail_is c)
     pick (inr l) (inr m) = let e : 240 + c / 262144 ≡ 244 = omega arith in rw e (last_of_four (next (c / 4096)) (next (c / 64)) (next c) (omega arith, omega arith) (tail_is (c / 64)) (tail_is c))
-
-encode_two : (c : ℕ) → 128 ≤ c → c < 2048 → encode c ≡ two_of c
-unfolding encode
-encode_two c l h = let a : ltb c 128 ≡ false = grind (arith, nat_tests) in let b : ltb c 2048 ≡ true = grind (arith, nat_tests) in rw (a, b) refl
-
-encode_three : (c : ℕ) → 2048 ≤ c → c < 65536 → encode c ≡ three_of c
-unfolding encode
-encode_three c l h = let a : ltb c 128 ≡ false = grind (arith, nat_tests) in let b : ltb c 2048 ≡ false = grind (arith, nat_tests) in let d : ltb c 65536 ≡ true = grind (arith, nat_tests) in rw (a, b, d) refl
-
-encode_four : (c : ℕ) → 65536 ≤ c → encode c ≡ four_of c
-unfolding encode
-encode_four c l = let a : ltb c 128 ≡ false = grind (arith, nat_tests) in let b : ltb c 2048 ≡ false = grind (arith, nat_tests) in let d : ltb c 65536 ≡ false = grind (arith, nat_tests) in rw (a, b, d) refl
 
 -- what has only bytes past ASCII is printed as it is
 high_char : (c : ℕ) (s : List ℕ) → encode c ≡ s → AreHigh s → IsChars s → StandsFor (escape (encode c)) (encode c)

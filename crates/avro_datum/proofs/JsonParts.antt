@@ -1,9 +1,9 @@
 -- From the parts of a JSON value to its levels and its tokens, and from these to its text.
 use Rattle.std.proofs.Common.{◌≡◌, ℕ, zero, suc, ◌+◌, List, [], ◌∷◌, ◌++◌, refl, sym, subst, arith}
-use Rattle.std.specs.List.{flat_map}
 use Rattle.json_span.specs.Json.{Json, Token, tokens, IsWithin}
-use Rattle.json_span.specs.Text.{spelled, compact, Laid, IsText}
+use Rattle.json_span.specs.Text.{compact, Laid, IsText}
 use Rattle.json_span.specs.Tree.{AreTokens}
+use Rattle.json_span.proofs.Lookups.{laid_compact}
 use Rattle.avro_schema.proofs.GoodReading.{within_more}
 
 pub within_above : (more levels all : ℕ) (j : Json) → all ≡ more + levels → IsWithin levels j → IsWithin all j
@@ -16,10 +16,6 @@ within_above (suc more) levels all j e w =
 pub both_tokens : (ts us : List Token) → AreTokens ts → AreTokens us → AreTokens (ts ++ us)
 both_tokens [] us h k = k
 both_tokens (t ∷ ts) us h k = (h.0, both_tokens ts us h.1 k)
-
-laid_compact : (ts : List Token) → AreTokens ts → Laid ts (flat_map spelled ts)
-laid_compact [] h = tt
-laid_compact (t ∷ ts) h = ([], flat_map spelled ts, tt, refl, h.0, laid_compact ts h.1)
 
 -- the text without white space
 pub compact_is_text : (levels : ℕ) (bytes : List ℕ) (j : Json) → bytes ≡ compact j → IsWithin levels j → AreTokens (tokens j) → IsText levels bytes j

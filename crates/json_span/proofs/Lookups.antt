@@ -111,7 +111,8 @@ utf8_along xs ys e h = let P : List ℕ → Type 0 = λ x. IsUtf8 x in subst P e
 pub text_utf8 : (source : List ℕ) (x : Node) (j : Json) (bytes : List ℕ) → Lies source x j → bytes ≡ take (x.end - x.start) (drop x.start source) → IsUtf8 bytes
 text_utf8 source x j bytes l e = utf8_along _ _ (sym (e ∙ l.spells)) (tokens_utf8 (tokens j) l.valid)
 
-laid_compact : (ts : List Token) → AreTokens ts → Laid ts (flat_map spelled ts)
+-- tokens without white space are a text of them
+pub laid_compact : (ts : List Token) → AreTokens ts → Laid ts (flat_map spelled ts)
 laid_compact [] h = tt
 laid_compact (t ∷ ts) h = ([], flat_map spelled ts, tt, refl, h.0, laid_compact ts h.1)
 

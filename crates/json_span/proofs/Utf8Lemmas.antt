@@ -30,15 +30,15 @@ encode_one : (c : ℕ) → c < 128 → encode c ≡ c ∷ []
 unfolding encode
 encode_one c h = grind (arith, nat_tests)
 
-encode_two : (c : ℕ) → 128 ≤ c → c < 2048 → encode c ≡ (192 + c / 64) ∷ (next c ∷ [])
+pub encode_two : (c : ℕ) → 128 ≤ c → c < 2048 → encode c ≡ (192 + c / 64) ∷ (next c ∷ [])
 unfolding encode
 encode_two c l h = let a : ltb c 128 ≡ false = grind (arith, nat_tests) in let b : ltb c 2048 ≡ true = grind (arith, nat_tests) in rw (a, b) refl
 
-encode_three : (c : ℕ) → 2048 ≤ c → c < 65536 → encode c ≡ (224 + c / 4096) ∷ (next (c / 64) ∷ (next c ∷ []))
+pub encode_three : (c : ℕ) → 2048 ≤ c → c < 65536 → encode c ≡ (224 + c / 4096) ∷ (next (c / 64) ∷ (next c ∷ []))
 unfolding encode
 encode_three c l h = let a : ltb c 128 ≡ false = grind (arith, nat_tests) in let b : ltb c 2048 ≡ false = grind (arith, nat_tests) in let d : ltb c 65536 ≡ true = grind (arith, nat_tests) in rw (a, b, d) refl
 
-encode_four : (c : ℕ) → 65536 ≤ c → encode c ≡ (240 + c / 262144) ∷ (next (c / 4096) ∷ (next (c / 64) ∷ (next c ∷ [])))
+pub encode_four : (c : ℕ) → 65536 ≤ c → encode c ≡ (240 + c / 262144) ∷ (next (c / 4096) ∷ (next (c / 64) ∷ (next c ∷ [])))
 unfolding encode
 encode_four c l = let a : ltb c 128 ≡ false = grind (arith, nat_tests) in let b : ltb c 2048 ≡ false = grind (arith, nat_tests) in let d : ltb c 65536 ≡ false = grind (arith, nat_tests) in rw (a, b, d) refl
 

@@ -109,11 +109,11 @@ fn push_byte(source: &mut Vec<u8>, byte: u8) -> Result<(), JsonNo>
 }
 
 /// Opens an array or an object.
-fn push_open(open: &mut Vec<Open>, opened: Open) -> Result<(), JsonNo>
-    ensures ok { OnOk result (open.new.items ≡ open.old.items ++ opened ∷ []) }
+fn push_open(opens: &mut Vec<Open>, opened: Open) -> Result<(), JsonNo>
+    ensures ok { OnOk result (opens.new.items ≡ opens.old.items ++ opened ∷ []) }
     ensures want { IfErr result (λ e. e ≡ JsonNo.Want) }
 {
-    match open.push(opened) {
+    match opens.push(opened) {
         Ok(()) => Ok(()),
         Err(_) => Err(JsonNo::Want),
     }
@@ -294,24 +294,24 @@ fn begin_array(
     bytes: &[u8],
     place: usize,
     source: &mut Vec<u8>,
-    open: &mut Vec<Open>,
+    opens: &mut Vec<Open>,
 ) -> Result<(), JsonNo>
     requires inside { place < length bytes.now }
     requires bracket { get_or bytes.now place 0 ≡ 91 }
     ensures ok { OnOk result ((nodes : List Node)
-        → AtAny bytes.now place nodes source.old.items open.old.items
-        → AtValue bytes.now (place + 1) true nodes source.new.items open.new.items) }
+        → AtAny bytes.now place nodes source.old.items opens.old.items
+        → AtValue bytes.now (place + 1) true nodes source.new.items opens.new.items) }
     ensures err { IfErr result (λ e. (nodes : List Node)
-        → AtAny bytes.now place nodes source.old.items open.old.items → Refuses bytes.now e) }
+        → AtAny bytes.now place nodes source.old.items opens.old.items → Refuses bytes.now e) }
 {
-    if open.len() > 126 {
+    if opens.len() > 126 {
         return Err(JsonNo::TooDeep);
     }
     let start = source.len();
     if let Err(e) = push_byte(source, 91) {
         return Err(e);
     }
-    match push_open(open, Open::InArray(start, Vec::new(alloc))) {
+    match push_open(opens, Open::InArray(start, Vec::new(alloc))) {
         Ok(()) => Ok(()),
         Err(e) => Err(e),
     }
@@ -323,17 +323,17 @@ fn begin_object(
     bytes: &[u8],
     place: usize,
     tree: &mut Tree,
-    open: &mut Vec<Open>,
+    opens: &mut Vec<Open>,
 ) -> Result<(Next, usize), JsonNo>
     requires inside { place < length bytes.now }
     requires brace { get_or bytes.now place 0 ≡ 123 }
-    requires at { AtAny bytes.now place tree.old.nodes.items tree.old.source.items open.old.items }
+    requires at { AtAny bytes.now place tree.old.nodes.items tree.old.source.items opens.old.items }
     ensures ok { IfOk result (λ r. At bytes.now r.0 r.1
-        tree.new.nodes.items tree.new.source.items open.new.items) }
+        tree.new.nodes.items tree.new.source.items opens.new.items) }
     ensures further { IfOk result (λ r. place < r.1) }
     ensures err { IfErr result (Refuses bytes.now) }
 {
-    if open.len() >= 127 {
+    if opens.len() >= 127 {
         return Err(JsonNo::TooDeep);
     }
     let start = tree.source.len();
@@ -346,7 +346,10 @@ fn begin_object(
     }
     if bytes[at] == 34 {
         return match member_name(alloc, bytes, at, &mut tree.source) {
-            Ok((name, end)) => match push_open(open, Open::InObject(start, Vec::new(alloc), name)) {
+            Ok((name, end)) => match push_open(
+                opens,
+                Open::InObject(start, Vec::new(alloc), name),
+            ) {
                 Ok(()) => Ok((Next::Value(false), end)),
                 Err(e) => Err(e),
             },
@@ -382,12 +385,12 @@ fn after_item(
     start: usize,
     items: Vec<u32>,
     tree: &mut Tree,
-    open: &mut Vec<Open>,
+    opens: &mut Vec<Open>,
 ) -> Result<(Next, usize), JsonNo>
     requires { BehindItem bytes.now place start items.items tree.old.nodes.items
-        tree.old.source.items open.old.items }
+        tree.old.source.items opens.old.items }
     ensures ok { IfOk result (λ r. At bytes.now r.0 r.1
-        tree.new.nodes.items tree.new.source.items open.new.items) }
+        tree.new.nodes.items tree.new.source.items opens.new.items) }
     ensures further { IfOk result (λ r. place < r.1) }
     ensures err { IfErr result (Refuses bytes.now) }
 {
@@ -399,7 +402,7 @@ fn after_item(
         if let Err(e) = push_byte(&mut tree.source, 44) {
             return Err(e);
         }
-        return match push_open(open, Open::InArray(start, items)) {
+        return match push_open(opens, Open::InArray(start, items)) {
             Ok(()) => Ok((Next::Value(false), at + 1)),
             Err(e) => Err(e),
         };
@@ -421,12 +424,12 @@ fn after_member(
     start: usize,
     members: Vec<Member>,
     tree: &mut Tree,
-    open: &mut Vec<Open>,
+    opens: &mut Vec<Open>,
 ) -> Result<(Next, usize), JsonNo>
     requires { BehindMember bytes.now place start members.items tree.old.nodes.items
-        tree.old.source.items open.old.items }
+        tree.old.source.items opens.old.items }
     ensures ok { IfOk result (λ r. At bytes.now r.0 r.1
-        tree.new.nodes.items tree.new.source.items open.new.items) }
+        tree.new.nodes.items tree.new.source.items opens.new.items) }
     ensures further { IfOk result (λ r. place < r.1) }
     ensures err { IfErr result (Refuses bytes.now) }
 {
@@ -435,7 +438,7 @@ fn after_member(
         return Err(JsonNo::Cut);
     }
     if bytes[at] == 44 {
-        return next_member(alloc, bytes, at, start, members, tree, open);
+        return next_member(alloc, bytes, at, start, members, tree, opens);
     }
     if bytes[at] != 125 {
         return Err(JsonNo::BadByte(at));
@@ -454,14 +457,14 @@ fn next_member(
     start: usize,
     members: Vec<Member>,
     tree: &mut Tree,
-    open: &mut Vec<Open>,
+    opens: &mut Vec<Open>,
 ) -> Result<(Next, usize), JsonNo>
     requires inside { place < length bytes.now }
     requires comma { get_or bytes.now place 0 ≡ 44 }
     requires at { BehindMember bytes.now place start members.items tree.old.nodes.items
-        tree.old.source.items open.old.items }
+        tree.old.source.items opens.old.items }
     ensures ok { IfOk result (λ r. At bytes.now r.0 r.1
-        tree.new.nodes.items tree.new.source.items open.new.items) }
+        tree.new.nodes.items tree.new.source.items opens.new.items) }
     ensures further { IfOk result (λ r. place < r.1) }
     ensures err { IfErr result (Refuses bytes.now) }
 {
@@ -476,7 +479,7 @@ fn next_member(
         return Err(JsonNo::BadByte(at));
     }
     match member_name(alloc, bytes, at, &mut tree.source) {
-        Ok((name, end)) => match push_open(open, Open::InObject(start, members, name)) {
+        Ok((name, end)) => match push_open(opens, Open::InObject(start, members, name)) {
             Ok(()) => Ok((Next::Value(false), end)),
             Err(e) => Err(e),
         },
@@ -490,14 +493,14 @@ fn value_at(
     bytes: &[u8],
     place: usize,
     tree: &mut Tree,
-    open: &mut Vec<Open>,
+    opens: &mut Vec<Open>,
 ) -> Result<(Next, usize), JsonNo>
     requires inside { place < length bytes.now }
-    requires at { AtAny bytes.now place tree.old.nodes.items tree.old.source.items open.old.items }
+    requires at { AtAny bytes.now place tree.old.nodes.items tree.old.source.items opens.old.items }
     requires blank { is_blank (get_or bytes.now place 0) ≡ false }
     requires open { get_or bytes.now place 0 ≡ 93 → ⊥ }
     ensures ok { IfOk result (λ r. At bytes.now r.0 r.1
-        tree.new.nodes.items tree.new.source.items open.new.items) }
+        tree.new.nodes.items tree.new.source.items opens.new.items) }
     ensures further { IfOk result (λ r. place < r.1) }
     ensures err { IfErr result (Refuses bytes.now) }
 {
@@ -509,10 +512,10 @@ fn value_at(
         return after(number_value(bytes, place, tree));
     }
     if byte == 123 {
-        return begin_object(alloc, bytes, place, tree, open);
+        return begin_object(alloc, bytes, place, tree, opens);
     }
     if byte == 91 {
-        return match begin_array(alloc, bytes, place, &mut tree.source, open) {
+        return match begin_array(alloc, bytes, place, &mut tree.source, opens) {
             Ok(()) => Ok((Next::Value(true), place + 1)),
             Err(e) => Err(e),
         };
@@ -552,11 +555,11 @@ fn value(
     place: usize,
     first: bool,
     tree: &mut Tree,
-    open: &mut Vec<Open>,
+    opens: &mut Vec<Open>,
 ) -> Result<(Next, usize), JsonNo>
-    requires { AtValue bytes.now place first tree.old.nodes.items tree.old.source.items open.old.items }
+    requires { AtValue bytes.now place first tree.old.nodes.items tree.old.source.items opens.old.items }
     ensures ok { IfOk result (λ r. At bytes.now r.0 r.1
-        tree.new.nodes.items tree.new.source.items open.new.items) }
+        tree.new.nodes.items tree.new.source.items opens.new.items) }
     ensures further { IfOk result (λ r. place < r.1) }
     ensures err { IfErr result (Refuses bytes.now) }
 {
@@ -565,12 +568,12 @@ fn value(
         return Err(JsonNo::Cut);
     }
     if bytes[at] != 93 {
-        return value_at(alloc, bytes, at, tree, open);
+        return value_at(alloc, bytes, at, tree, opens);
     }
     if !first {
         return Err(JsonNo::BadByte(at));
     }
-    empty_array(bytes, at, tree, open)
+    empty_array(bytes, at, tree, opens)
 }
 
 /// The end of an array that has just begun.
@@ -578,17 +581,17 @@ fn empty_array(
     bytes: &[u8],
     place: usize,
     tree: &mut Tree,
-    open: &mut Vec<Open>,
+    opens: &mut Vec<Open>,
 ) -> Result<(Next, usize), JsonNo>
     requires inside { place < length bytes.now }
     requires bracket { get_or bytes.now place 0 ≡ 93 }
-    requires at { AtValue bytes.now place true tree.old.nodes.items tree.old.source.items open.old.items }
+    requires at { AtValue bytes.now place true tree.old.nodes.items tree.old.source.items opens.old.items }
     ensures ok { IfOk result (λ r. At bytes.now r.0 r.1
-        tree.new.nodes.items tree.new.source.items open.new.items) }
+        tree.new.nodes.items tree.new.source.items opens.new.items) }
     ensures further { IfOk result (λ r. place < r.1) }
     ensures err { IfErr result (Refuses bytes.now) }
 {
-    match open.pop() {
+    match opens.pop() {
         Some(Open::InArray(start, items)) => match close(93, start, Form::Array(items), tree) {
             Ok(node) => Ok((Next::After(node), place + 1)),
             Err(e) => Err(e),
@@ -606,21 +609,21 @@ fn behind(
     node: u32,
     top: Open,
     tree: &mut Tree,
-    open: &mut Vec<Open>,
+    opens: &mut Vec<Open>,
 ) -> Result<(Next, usize), JsonNo>
-    requires { BehindOpen bytes.now place node tree.old.nodes.items tree.old.source.items open.old.items top }
+    requires { BehindOpen bytes.now place node tree.old.nodes.items tree.old.source.items opens.old.items top }
     ensures ok { IfOk result (λ r. At bytes.now r.0 r.1
-        tree.new.nodes.items tree.new.source.items open.new.items) }
+        tree.new.nodes.items tree.new.source.items opens.new.items) }
     ensures further { IfOk result (λ r. place < r.1) }
     ensures err { IfErr result (Refuses bytes.now) }
 {
     match top {
         Open::InArray(start, mut items) => match items.push(node) {
-            Ok(()) => after_item(bytes, place, start, items, tree, open),
+            Ok(()) => after_item(bytes, place, start, items, tree, opens),
             Err(_) => Err(JsonNo::Want),
         },
         Open::InObject(start, mut members, name) => match members.push(Member { name, node }) {
-            Ok(()) => after_member(alloc, bytes, place, start, members, tree, open),
+            Ok(()) => after_member(alloc, bytes, place, start, members, tree, opens),
             Err(_) => Err(JsonNo::Want),
         },
     }
@@ -654,14 +657,14 @@ fn read_text(alloc: Global, bytes: &[u8]) -> Result<Tree, JsonNo>
         source,
         root: 0,
     };
-    let mut open = Vec::new(alloc);
+    let mut opens = Vec::new(alloc);
     let mut next = Next::Value(false);
     let mut place = 0;
     loop {
         let step = match next {
-            Next::Value(first) => value(alloc, bytes, place, first, &mut tree, &mut open),
-            Next::After(node) => match open.pop() {
-                Some(top) => behind(alloc, bytes, place, node, top, &mut tree, &mut open),
+            Next::Value(first) => value(alloc, bytes, place, first, &mut tree, &mut opens),
+            Next::After(node) => match opens.pop() {
+                Some(top) => behind(alloc, bytes, place, node, top, &mut tree, &mut opens),
                 None => {
                     tree.root = node;
                     return match end(bytes, place) {
