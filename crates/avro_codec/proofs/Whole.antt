@@ -1,7 +1,6 @@
 -- From what a datum's reading and its verdict say, to its spellings.
-use Rattle.std.proofs.Common.{◌≡◌, ℕ, List, Result, Ok, Err, sym, ◌∙◌, subst, inl, inr}
-use Rattle.std.specs.Prelude.{IfOk, IfErr, MatchResult}
-use Rattle.std.specs.Global.{Vec}
+use Rattle.std.proofs.Common.{◌≡◌, ℕ, List, Result, Ok, Err, sym, ◌∙◌, inl, inr}
+use Rattle.std.specs.Prelude.{IfOk, IfErr, OnOk, MatchResult}
 use Rattle.avro_schema.specs.Types.{AvroType}
 use Rattle.avro_datum.specs.declared.error.AvroNo.{AvroNo}
 use Rattle.avro_datum.specs.declared.error.AvroNo.TheVariants.{Want}
@@ -29,17 +28,17 @@ pub read_only : (whole : AvroType) (bs : List ℕ) (r : Result Datum AvroNo) →
 read_only whole bs (Ok d) is v spells small = ok_is (value_of d) v (sym is ∙ datum_again whole bs v spells small)
 read_only whole bs (Err e) is v spells small = elim is [ inl want ↦ want | inr no_datum ↦ absurd (let a = datum_again whole bs v spells small in cc) ]
 
-abbrev IsWritten : AvroType → Value → Result (Vec ℕ) AvroNo → Type 0
+abbrev IsWritten : {X : Type 0} → AvroType → Value → Result X AvroNo → Type 0
 IsWritten whole v r = MatchResult r (λ out. (n : ℕ) × (verdict whole v ≡ Ok n)) (λ e. Fails e (verdict whole v))
 
-pub written_spells : (whole : AvroType) (v : Value) (r : Result (Vec ℕ) AvroNo) → IsWritten whole v r → IfOk r (λ out. out.items ≡ plain v) → IfOk r (λ out. IsDatum whole whole v out.items × IsSmall v)
-written_spells whole v (Ok out) is value = let a = verdict_sound whole v is.0 is.1 in (subst (IsDatum whole whole v) (sym value) a.0, a.1)
-written_spells whole v (Err e) is value = tt
+pub written_spells : {X : Type 0} (whole : AvroType) (v : Value) (r : Result X AvroNo) → IsWritten whole v r → OnOk r (IsDatum whole whole v (plain v) × IsSmall v)
+written_spells whole v (Ok out) is = verdict_sound whole v is.0 is.1
+written_spells whole v (Err e) is = tt
 
-pub written_only : (whole : AvroType) (v : Value) (r : Result (Vec ℕ) AvroNo) → IsWritten whole v r → (bs : List ℕ) → IsDatum whole whole v bs → IsSmall v → IfErr r (λ e. e ≡ Want)
+pub written_only : {X : Type 0} (whole : AvroType) (v : Value) (r : Result X AvroNo) → IsWritten whole v r → (bs : List ℕ) → IsDatum whole whole v bs → IsSmall v → IfErr r (λ e. e ≡ Want)
 written_only whole v (Ok out) is bs spells small = tt
 written_only whole v (Err e) is bs spells small = only_want whole v bs e spells small is
 
-pub written_refusal : (whole : AvroType) (v : Value) (r : Result (Vec ℕ) AvroNo) → IsWritten whole v r → IfErr r (λ e. Fails e (verdict whole v))
+pub written_refusal : {X : Type 0} (whole : AvroType) (v : Value) (r : Result X AvroNo) → IsWritten whole v r → IfErr r (λ e. Fails e (verdict whole v))
 written_refusal whole v (Ok out) is = tt
 written_refusal whole v (Err e) is = is

@@ -256,7 +256,7 @@ impl<'a> Cursor<'a> {
             (fields_at (value_at (tree_of schema.now) levels) ts self.old) self.new }
         ensures shrinks { length self.new.left ≤ length self.old.left }
     {
-        let mut out = Vec::new(alloc);
+        let mut out = Vec::with_capacity(alloc, fields.len())?;
         for field in fields {
             let value = match self.value(alloc, schema, field.node, levels) {
                 Ok(value) => value,

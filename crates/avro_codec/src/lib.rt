@@ -13,5 +13,5 @@ mod tests;
 
 pub use avro_datum::{AvroNo, Datum, MapItem};
 pub use decoder::decode;
-pub use encoder::encode;
+pub use encoder::{encode, encode_into};
 pub use law::no_spelling_begins_another;

@@ -61,6 +61,9 @@ key_is x = ap (λ (e : Entry). e.key) (fold_out-MapItem Value Entry level_of ent
 pub value_is : (x : MapItem) → (item_of x).value ≡ value_of x.value
 value_is x = ap (λ (e : Entry). e.value) (fold_out-MapItem Value Entry level_of entry_of x)
 
+pub symbol_value : (n : ℕ) → value_of (variants.Symbol n) ≡ shapes.symbol n
+symbol_value n = ap value_of (sym (variants.rolls-Symbol n)) ∙ fold-roll-Datum Value Entry level_of entry_of (Datum-F.Symbol n)
+
 -- ---- a datum with parts
 
 pub fields_value : (vs : List Datum) → value_of (variants.Fields vs) ≡ shapes.fields (values_of (map value_of vs))

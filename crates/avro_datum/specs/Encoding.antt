@@ -1,22 +1,18 @@
 -- Which JSON value a value of a type is (Apache Avro 1.11 specification, "JSON Encoding").
-use Rattle.std.specs.Prelude.{ℕ, suc, ◌≡◌, ◌<◌, ◌^◌, ◌⊎◌, List, [], ◌∷◌, length, Option, Some, None, Bool, true, false, ◌&&◌, not, codes, option_map, if◌then◌else◌, FitsSigned}
+use Rattle.std.specs.Prelude.{ℕ, ◌≡◌, ◌<◌, ◌^◌, ◌⊎◌, List, [], ◌∷◌, length, Option, Some, None, Bool, true, false, ◌&&◌, not, codes, if◌then◌else◌, FitsSigned}
 use Rattle.std.specs.Int.{w32, w64}
 use Rattle.std.specs.Str.{bytes_eq, chars}
 use Rattle.std.specs.List.{AllByRecursion}
 use Rattle.avro_schema.specs.Types as schema
 use Rattle.avro_schema.specs.Types.{AvroType, Branches, Fields, resolved}
 pub use Rattle.avro_schema.specs.Distinct.{branch_names}
+pub use Rattle.avro_schema.specs.NameList.{place_of}
 use Rattle.json_span.specs.Json as json
 use Rattle.json_span.specs.Json.{Json, Items, Members}
 use Rattle.json_span.specs.Chars.{content}
 use Rattle.json_span.specs.Integer.{integer_of}
 use Rattle.avro_datum.specs.Value.{Value, Values, Entries, null, boolean, int, long, bytes, string, fixed, symbol, branch, fields, items, entries, no_values, value, no_entries, entry}
 use Rattle.avro_datum.specs.Judging.{is_null, branch_at}
-
--- the place of the first of these names that is the name
-abbrev pub place_of : List ℕ → List (List ℕ) → Option ℕ
-place_of name [] = None
-place_of name (n ∷ ns) = if bytes_eq n name then Some 0 else option_map suc (place_of name ns)
 
 abbrev pub or_else : {A : Type 0} → Option A → Option A → Option A
 or_else (Some x) other = Some x

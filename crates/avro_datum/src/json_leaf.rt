@@ -1,19 +1,20 @@
 //! Values without parts from nodes of a JSON tree. A `number` is the datum's node, counted in preorder.
-ghost use Rattle.std.specs.Prelude.{◌≡◌, ◌^◌, ℕ, suc, if◌then◌else◌, MatchResult};
+ghost use Rattle.std.specs.Prelude.{◌≡◌, ◌^◌, ℕ, List, suc, if◌then◌else◌, MatchResult};
 ghost use Rattle.std.specs.List.{list_all};
+ghost use Rattle.avro_schema.specs.Nodes.{Resolves};
+ghost use Rattle.avro_schema.specs.Types.{enum_};
 ghost use Rattle.json_span.specs.Json.{Json};
 ghost use Rattle.json_span.specs.Nodes.{HasNode, Stands};
 ghost use Rattle.json_span.specs.Number.{is_digit};
 ghost use Rattle.avro_datum.specs.declared.error.AvroNo.TheVariants.{Mismatch, Range};
-ghost use Rattle.avro_datum.specs.Encoding as encoding;
 ghost use Rattle.avro_datum.specs.Parts.{Gives};
-ghost use Rattle.avro_datum.specs.Reading.{fixed_at, flag_at, integer_at, null_at, points_at, points_of, ranged, symbol_at, text_at};
+ghost use Rattle.avro_datum.specs.Reading.{fixed_at, flag_at, integer_at, null_at, placed, points_at, points_of, ranged, symbol_at, text_at};
 ghost use Rattle.avro_datum.specs.Reading as reading;
 ghost use Rattle.avro_datum.specs.Steps.{Fails};
 ghost use Rattle.avro_datum.specs.Value as shapes;
 
 use crate::error::AvroNo;
-use gate_io::Text;
+use avro_schema::Schema;
 use json_span::{Kind, Tree};
 use std::alloc::Global;
 
@@ -177,31 +178,34 @@ pub(crate) fn fixed_in(
     }
 }
 
-/// The place of the first symbol that is the text.
-fn place_of(symbols: &[Text], name: &str) -> Option<usize>
-    ensures { result ≡ encoding.place_of name.now symbols.now }
+/// A place that is a `u32`.
+fn placed(found: Option<usize>, number: u32) -> Result<u32, AvroNo>
+    ensures { Gives (λ place. place) result (placed number found) }
 {
-    symbols.iter().position(|symbol| symbol.as_str() == name)
-}
-
-pub(crate) fn symbol_in(
-    symbols: &[Text],
-    tree: &Tree,
-    node: u32,
-    number: u32,
-) -> Result<u32, AvroNo>
-    requires { HasNode tree.now node }
-    ensures { (j : Json) → Stands tree.now node j → Gives (λ place. place) result (symbol_at number symbols.now j) }
-{
-    let name = match text_in(tree, node, number) {
-        Ok(name) => name,
-        Err(e) => return Err(e),
-    };
-    let Some(place) = place_of(symbols, name) else {
+    let Some(place) = found else {
         return Err(AvroNo::Mismatch(number));
     };
     match u32::try_from(place) {
         Ok(place) => Ok(place),
         Err(_) => Err(AvroNo::Mismatch(number)),
+    }
+}
+
+/// The place of the enum's symbol that a text is. The enum's node is `place`.
+pub(crate) fn symbol_in(
+    schema: &Schema,
+    place: u32,
+    tree: &Tree,
+    node: u32,
+    number: u32,
+) -> Result<u32, AvroNo>
+    requires node { HasNode tree.now node }
+    requires place { (name : List ℕ) × (symbols : List (List ℕ)) × Resolves schema.now place (enum_ name symbols) }
+    ensures { (name : List ℕ) (symbols : List (List ℕ)) → Resolves schema.now place (enum_ name symbols)
+        → (j : Json) → Stands tree.now node j → Gives (λ found. found) result (symbol_at number symbols j) }
+{
+    match text_in(tree, node, number) {
+        Ok(name) => placed(schema.symbol(place, name), number),
+        Err(e) => Err(e),
     }
 }

@@ -1,8 +1,8 @@
 //! A datum from a JSON tree.
 ghost use Rattle.std.specs.Prelude.{◌≡◌, ◌==◌, ◌&&◌, ◌<◌, ℕ, List, suc, false, map, Ok, IfOk, MatchResult};
-ghost use Rattle.avro_schema.specs.Types.{AvroType, Fields, resolved};
+ghost use Rattle.avro_schema.specs.Types.{AvroType, Fields, enum_, resolved};
 ghost use Rattle.avro_schema.specs.Nodes as types;
-ghost use Rattle.avro_schema.specs.Nodes.{tree_of, IsOfKind};
+ghost use Rattle.avro_schema.specs.Nodes.{tree_of, IsOfKind, Resolves};
 ghost use Rattle.json_span.specs.Json.{Json, Members};
 ghost use Rattle.json_span.specs.Json as json;
 ghost use Rattle.json_span.specs.Nodes.{HasNode, Stands, StandForItems, StandForMembers};
@@ -74,13 +74,21 @@ fn read_fixed(
     }
 }
 
-fn read_symbol(symbols: &[Text], tree: &Tree, node: u32, number: u32) -> Result<Datum, AvroNo>
-    requires { HasNode tree.now node }
-    ensures { (j : Json) → Stands tree.now node j
-        → Reads value_of result (reading.leaf number shapes.symbol (symbol_at number symbols.now j)) (suc number) }
+fn read_symbol(
+    schema: &Schema,
+    place: u32,
+    tree: &Tree,
+    node: u32,
+    number: u32,
+) -> Result<Datum, AvroNo>
+    requires node { HasNode tree.now node }
+    requires place { (name : List ℕ) × (symbols : List (List ℕ)) × Resolves schema.now place (enum_ name symbols) }
+    ensures { (name : List ℕ) (symbols : List (List ℕ)) → Resolves schema.now place (enum_ name symbols)
+        → (j : Json) → Stands tree.now node j
+        → Reads value_of result (reading.leaf number shapes.symbol (symbol_at number symbols j)) (suc number) }
 {
-    match symbol_in(symbols, tree, node, number) {
-        Ok(place) => Ok(Datum::Symbol(place)),
+    match symbol_in(schema, place, tree, node, number) {
+        Ok(found) => Ok(Datum::Symbol(found)),
         Err(e) => Err(e),
     }
 }
@@ -121,7 +129,7 @@ fn leaf(
         Kind::Bytes => read_bytes(alloc, tree, node, number),
         Kind::Text => read_text(alloc, tree, node, number),
         Kind::Fixed(size) => read_fixed(alloc, tree, node, number, size),
-        Kind::Enum => read_symbol(schema.symbols(place), tree, node, number),
+        Kind::Enum => read_symbol(schema, place, tree, node, number),
         Kind::Array(_) | Kind::Map(_) | Kind::Union | Kind::Record => unreachable!(),
     }
 }

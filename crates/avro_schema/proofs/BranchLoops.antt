@@ -1,5 +1,5 @@
 -- From branches so far to one more, and to all of them.
-use Rattle.std.proofs.Common.{◌≡◌, ℕ, ◌+◌, ◌<◌, List, [], ◌∷◌, ◌++◌, length, get_or, drop, true, false, cond, Ok, Err, inl, inr, refl, sym, ap, ◌∙◌, subst, append_assoc, arith}
+use Rattle.std.proofs.Common.{◌≡◌, ℕ, ◌+◌, ◌<◌, List, [], ◌∷◌, ◌++◌, length, get_or, drop, Bool, true, false, cond, Ok, Err, inl, inr, refl, sym, ap, ◌∙◌, subst, append_assoc, arith}
 use Rattle.std.specs.List.{All}
 use Rattle.std.proofs.lemmas.List.{append-nil}
 use Rattle.std.proofs.lemmas.List.Elements.{All-nil, All-push, All-weaker}
@@ -17,7 +17,7 @@ use Rattle.avro_schema.specs.declared.error.SchemaNo.TheVariants.{BadType}
 use Rattle.avro_schema.proofs.Grown.{branches_same, length-types_of}
 use Rattle.avro_schema.proofs.Growth.{grows_refl, grows_trans, grows_along}
 use Rattle.avro_schema.proofs.ListLemmas.{NextItem, no_item}
-use Rattle.avro_schema.proofs.Outcomes.{next_ok, why_next}
+use Rattle.avro_schema.proofs.Outcomes.{next_ok}
 use Rattle.avro_schema.proofs.FieldLoops.{agree_later, more_nodes}
 
 in_front_nothing : (o : Outcome Branches) → o ≡ in_front (behind_branches no_branches) o
@@ -119,32 +119,30 @@ branches_done tree below namespace js p q ks cs e s =
 
 -- ---- one branch
 
-pub branch_repeated : (below : Reader) (namespace : List ℕ) (j : Json) (p q : Parts) (ks : List ℕ) (k : ℕ) → Makes (below true (names_of p) namespace j) p q k → All (λ c. c < length p.nodes.items) ks
-    → is_among (branch_name (type_at (types_of q.nodes.items) k)) (names_of_branches (types_of q.nodes.items) ks) ≡ true → Why (branch_read below (names_of p) namespace (names_of_branches (types_of p.nodes.items) ks) j) BadType
-branch_repeated below namespace j p q ks k m h test =
-    let here : type_at (types_of q.nodes.items) k ≡ m.t = get_or_from_slice_get (types_of q.nodes.items) k m.t null m.stands in
-    let among : is_among (branch_name m.t) (names_of_branches (types_of p.nodes.items) ks) ≡ true =
-    ap (λ ns. is_among (branch_name m.t) ns) (names_later p q (definitions m.t) ks m.grows h) ∙ ap (λ t. is_among (branch_name t) (names_of_branches (types_of q.nodes.items) ks)) (sym here) ∙ test in
-    why_next (below true (names_of p) namespace j) (record { value = m.t; names = names_of q }) (λ t. cond (is_among (branch_name t.value) (names_of_branches (types_of p.nodes.items) ks)) (Err BadType) (Ok t)) BadType m.is
-    (inl (ap (λ b. cond b (Err BadType) (Ok (record { value = m.t; names = names_of q }))) among))
+module _ (below : Reader) (namespace : List ℕ) (j : Json) (p q : Parts) (ks : List ℕ) (k : ℕ) (names : List (List ℕ)) (m : Makes (below true (names_of p) namespace j) p q k) (are : names ≡ names_of_branches (types_of p.nodes.items) ks) where
+  chosen : Bool → Outcome AvroType
+  chosen b = cond b (Err BadType) (Ok (record { value = m.t; names = names_of q }))
 
-pub branch_made : (below : Reader) (namespace : List ℕ) (j : Json) (p q : Parts) (ks ks_now : List ℕ) (k : ℕ) → Makes (below true (names_of p) namespace j) p q k → All (λ c. c < length p.nodes.items) ks
-    → is_among (branch_name (type_at (types_of q.nodes.items) k)) (names_of_branches (types_of q.nodes.items) ks) ≡ false → ks_now ≡ ks ++ (k ∷ []) → MakesBranch (branch_read below (names_of p) namespace (names_of_branches (types_of p.nodes.items) ks) j) p q ks ks_now
-branch_made below namespace j p q ks ks_now k m h test more =
-    let here : type_at (types_of q.nodes.items) k ≡ m.t = get_or_from_slice_get (types_of q.nodes.items) k m.t null m.stands in
-    let among : is_among (branch_name m.t) (names_of_branches (types_of p.nodes.items) ks) ≡ false =
-    ap (λ ns. is_among (branch_name m.t) ns) (names_later p q (definitions m.t) ks m.grows h) ∙ ap (λ t. is_among (branch_name t) (names_of_branches (types_of q.nodes.items) ks)) (sym here) ∙ test in
-    record {
-      node = k;
-      more = more;
-      makes = record {
-        t = m.t;
-        is = next_ok (below true (names_of p) namespace j) (record { value = m.t; names = names_of q }) (λ t. cond (is_among (branch_name t.value) (names_of_branches (types_of p.nodes.items) ks)) (Err BadType) (Ok t)) m.is
-            ∙ ap (λ b. cond b (Err BadType) (Ok (record { value = m.t; names = names_of q }))) among;
-        stands = m.stands;
-        grows = m.grows;
-      };
-    }
+  read_is : (b : Bool) → is_among (branch_name (type_at (types_of q.nodes.items) k)) names ≡ b → branch_read below (names_of p) namespace (names_of_branches (types_of p.nodes.items) ks) j ≡ chosen b
+  unfolding chosen
+  read_is b test =
+      let here : type_at (types_of q.nodes.items) k ≡ m.t = get_or_from_slice_get (types_of q.nodes.items) k m.t null m.stands in
+      let among : is_among (branch_name m.t) (names_of_branches (types_of p.nodes.items) ks) ≡ b =
+      ap (is_among (branch_name m.t)) (sym are) ∙ ap (λ t. is_among (branch_name t) names) (sym here) ∙ test in
+      next_ok (below true (names_of p) namespace j) (record { value = m.t; names = names_of q }) (λ t. cond (is_among (branch_name t.value) (names_of_branches (types_of p.nodes.items) ks)) (Err BadType) (Ok t)) m.is ∙ ap chosen among
+
+  pub branch_repeated : is_among (branch_name (type_at (types_of q.nodes.items) k)) names ≡ true → Why (branch_read below (names_of p) namespace (names_of_branches (types_of p.nodes.items) ks) j) BadType
+  unfolding chosen
+  branch_repeated test = inl (read_is true test)
+
+  pub branch_made : (ks_now : List ℕ) → is_among (branch_name (type_at (types_of q.nodes.items) k)) names ≡ false → ks_now ≡ ks ++ (k ∷ []) → MakesBranch (branch_read below (names_of p) namespace (names_of_branches (types_of p.nodes.items) ks) j) p q ks ks_now
+  unfolding chosen
+  branch_made ks_now test more = record { node = k; more = more; makes = record { t = m.t; is = read_is false test; stands = m.stands; grows = m.grows } }
+
+  pub branch_named : (ks_now : List ℕ) (names_now : List (List ℕ)) → All (λ c. c < length p.nodes.items) ks → names_now ≡ names ++ branch_name (type_at (types_of q.nodes.items) k) ∷ [] → ks_now ≡ ks ++ (k ∷ [])
+      → names_now ≡ names_of_branches (types_of q.nodes.items) ks_now
+  branch_named ks_now names_now inside is more =
+      is ∙ ap (λ ns. ns ++ branch_name (type_at (types_of q.nodes.items) k) ∷ []) (are ∙ names_later p q (definitions m.t) ks m.grows inside) ∙ sym (ap (names_of_branches (types_of q.nodes.items)) more ∙ names-push (types_of q.nodes.items) ks k)
 
 pub made_inside : (o : Outcome AvroType) (p q : Parts) (k : ℕ) → Makes o p q k → k < length q.nodes.items
 made_inside o p q k m = let far = slice_get_within (types_of q.nodes.items) k m.t m.stands in let size = length-types_of q.nodes.items in omega arith

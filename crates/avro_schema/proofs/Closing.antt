@@ -7,7 +7,7 @@ use Rattle.avro_schema.specs.Reading.{Outcome}
 use Rattle.avro_schema.specs.Building.{names_in, names_of, FirstNamed, IsBuilt, DefinesIn, Grows, Tells, Finishes, NamesNew, defined_at}
 use Rattle.avro_schema.specs.declared.parts.Form.{Form}
 use Rattle.avro_schema.specs.declared.parts.Form.TheVariants.{Named}
-use Rattle.avro_schema.specs.declared.parts.Definition.{Definition}
+use Rattle.avro_schema.specs.declared.definitions.Definition.{Definition}
 use Rattle.avro_schema.specs.declared.parts.Parts.{Parts}
 use Rattle.avro_schema.specs.declared.error.SchemaNo.{SchemaNo}
 use Rattle.avro_schema.specs.declared.error.SchemaNo.TheVariants.{Want}
@@ -19,18 +19,18 @@ named_built o p q name d b n =
     let Q : List Definition → Type 0 = λ xs. (k : ℕ) (m : List ℕ) (e : ℕ) → slice_get q.nodes.items k ≡ Some (Named m e) → FirstNamed xs m e in
     record {
       before = subst P (sym n.nodes) b.before;
-      leads = subst Q (sym n.definitions) (λ k m e h. first_stays p.definitions.items ((record { name = name; node = 0 }) ∷ []) m e (b.leads k m e (ap (λ fs. slice_get fs k) (sym n.nodes) ∙ h)));
+      leads = subst Q (sym n.definitions) (λ k m e h. first_stays p.definitions ((record { name = name; node = 0 }) ∷ []) m e (b.leads k m e (ap (λ fs. slice_get fs k) (sym n.nodes) ∙ h)));
     }
 
 pub named_names : (o : Result (List ℕ) SchemaNo) (p q : Parts) (name : List ℕ) (d : ℕ) → NamesNew o p q name d → names_of q ≡ names_of p ++ (name ∷ [])
-named_names o p q name d n = ap names_in n.definitions ∙ names_in-append p.definitions.items ((record { name = name; node = 0 }) ∷ [])
+named_names o p q name d n = ap names_in n.definitions ∙ names_in-append p.definitions ((record { name = name; node = 0 }) ∷ [])
 
-pub named_inside : (o : Result (List ℕ) SchemaNo) (p q r : Parts) (name : List ℕ) (d : ℕ) (ds : List Defined) → NamesNew o p q name d → Grows q r ds → d < length r.definitions.items
+pub named_inside : (o : Result (List ℕ) SchemaNo) (p q r : Parts) (name : List ℕ) (d : ℕ) (ds : List Defined) → NamesNew o p q name d → Grows q r ds → d < length r.definitions
 named_inside o p q r name d ds n g =
     let a = ap length n.definitions in
-    let b = length-append p.definitions.items ((record { name = name; node = 0 }) ∷ []) in
+    let b = length-append p.definitions ((record { name = name; node = 0 }) ∷ []) in
     let c = ap length g.definitions_are in
-    let e = length-append q.definitions.items g.made in
+    let e = length-append q.definitions g.made in
     let place = n.place in omega arith
 
 -- what is known of the type whose node was made
@@ -45,9 +45,9 @@ closed o p q r s name d ds f t k n g fin before plain type defines =
     let stood = push_stands r s f fin.nodes ∙ ap (λ x. Some x) type in
     let P : ℕ → Type 0 = λ i. slice_get (types_of s.nodes.items) i ≡ Some t in
     let stands = subst P (sym fin.place) stood in
-    let before_close : r.definitions.items ≡ (p.definitions.items ++ ((record { name = name; node = 0 }) ∷ [])) ++ g.made = g.definitions_are ∙ ap (λ xs. xs ++ g.made) n.definitions in
-    let defined : s.definitions.items ≡ p.definitions.items ++ ((record { name = name; node = k }) ∷ g.made) =
-    fin.definitions ∙ ap (λ xs. defined_at xs d k) before_close ∙ ap (λ i. defined_at ((p.definitions.items ++ ((record { name = name; node = 0 }) ∷ [])) ++ g.made) i k) n.place ∙ defined_at-behind p.definitions.items g.made name 0 k in
+    let before_close : r.definitions ≡ (p.definitions ++ ((record { name = name; node = 0 }) ∷ [])) ++ g.made = g.definitions_are ∙ ap (λ xs. xs ++ g.made) n.definitions in
+    let defined : s.definitions ≡ p.definitions ++ ((record { name = name; node = k }) ∷ g.made) =
+    fin.definitions ∙ ap (λ xs. defined_at xs d k) before_close ∙ ap (λ i. defined_at ((p.definitions ++ ((record { name = name; node = 0 }) ∷ [])) ++ g.made) i k) n.place ∙ defined_at-behind p.definitions g.made name 0 k in
     let Q : List Form → Type 0 = λ fs. DefinesIn (types_of fs) g.made ds in
     let R : List Defined → Type 0 = λ xs. DefinesIn (types_of s.nodes.items) ((record { name = name; node = k }) ∷ g.made) xs in
     let inner : DefinesIn (types_of s.nodes.items) g.made ds = subst Q (sym fin.nodes) (defines_stay r.nodes.items (f ∷ []) g.made ds g.define) in
@@ -57,14 +57,14 @@ closed o p q r s name d ds f t k n g fin before plain type defines =
     let L : List Definition → Type 0 = λ xs. (i : ℕ) (m : List ℕ) (e : ℕ) → slice_get s.nodes.items i ≡ Some (Named m e) → FirstNamed xs m e in
     record {
       stands = stands;
-      names_are = ap names_in fin.definitions ∙ names_in-defined_at r.definitions.items d k;
+      names_are = ap names_in fin.definitions ∙ names_in-defined_at r.definitions d k;
       grows = record {
         more = g.more ++ (f ∷ []);
         nodes_are = fin.nodes ∙ ap (λ xs. xs ++ (f ∷ [])) g.nodes_are ∙ append_assoc q.nodes.items g.more (f ∷ []) ∙ ap (λ xs. xs ++ (g.more ++ (f ∷ []))) n.nodes;
         made = (record { name = name; node = k }) ∷ g.made;
         definitions_are = defined;
         define = subst R (sym defines) (refl, stands, inner);
-        built = record { before = pushed.before; leads = subst L (sym fin.definitions) (λ i m e h. first_defined_at r.definitions.items d k m e (pushed.leads i m e h)) };
+        built = record { before = pushed.before; leads = subst L (sym fin.definitions) (λ i m e h. first_defined_at r.definitions d k m e (pushed.leads i m e h)) };
       };
     }
 

@@ -22,10 +22,10 @@ module _ (canonical : Bool) (p : Parts) (enclosing : List ℕ) (ms : Members) wh
   unfolding defined_name
   name_refused e w = why_first _ (new_name (names_of p)) e w
 
-  pub redefined : (name : List ℕ) (d : ℕ) → given_name canonical enclosing (last_member (codes "name") ms) (last_member (codes "namespace") ms) ≡ Ok name → FirstNamed p.definitions.items name d
+  pub redefined : (name : List ℕ) (d : ℕ) → given_name canonical enclosing (last_member (codes "name") ms) (last_member (codes "namespace") ms) ≡ Ok name → FirstNamed p.definitions name d
       → Why (defined_name canonical (names_of p) enclosing ms) Redefined
   unfolding defined_name
-  redefined name d is first = why_next _ name (new_name (names_of p)) Redefined is (inl (ap (λ t. cond t (Err Redefined) (cond (is_definable name) (Ok name) (Err BadName))) (first_among p.definitions.items name d first)))
+  redefined name d is first = why_next _ name (new_name (names_of p)) Redefined is (inl (ap (λ t. cond t (Err Redefined) (cond (is_definable name) (Ok name) (Err BadName))) (first_among p.definitions name d first)))
 
   pub bad_name : (name : List ℕ) → given_name canonical enclosing (last_member (codes "name") ms) (last_member (codes "namespace") ms) ≡ Ok name → is_among name (names_of p) ≡ false → is_definable name ≡ false
       → Why (defined_name canonical (names_of p) enclosing ms) BadName

@@ -1,38 +1,36 @@
--- From one definition more to the first of a name.
-use Rattle.std.proofs.Common.{◌≡◌, ℕ, zero, suc, ◌+◌, ◌<◌, List, [], ◌∷◌, length, get_or, drop, true, false, ◌||◌, refl, sym, ap, ◌∙◌, subst, arith, add-one}
+-- From the names of definitions to the first of a name.
+use Rattle.std.proofs.Common.{◌≡◌, ℕ, zero, suc, ◌<◌, List, [], ◌∷◌, ◌++◌, ◌-◌, length, take, get_or, Bool, true, false, cond, Option, Some, None, refl, sym, ap, ◌∙◌, arith, length-append}
+use Rattle.std.proofs.Math.Seq.{take-append_seam}
 use Rattle.std.specs.Str.{bytes_eq}
-use Rattle.std.specs.Prelude.{slice_set}
-use Rattle.std.proofs.Math.Seq.{drop-cons}
-use Rattle.avro_schema.specs.Reading.{is_among}
-use Rattle.avro_schema.specs.Building.{FirstNamed, names_in, defined_at}
-use Rattle.avro_schema.specs.declared.parts.Definition.{Definition}
+use Rattle.std.specs.Prelude.{slice_set, option_map, is_some}
+use Rattle.avro_schema.specs.NameList.{place_of}
+use Rattle.avro_schema.specs.Building.{FirstNamed, FindsName, names_in, defined_at}
+use Rattle.avro_schema.specs.declared.definitions.Definition.{Definition}
+use Rattle.avro_schema.proofs.NameLists.{among_is}
 
--- what the loop of `find` knows before number i
-pub record Passed (xs : List Definition) (name : List ℕ) (i : ℕ) : Type 0 where
-  pub later : (d : ℕ) → FirstNamed (drop i xs) name d → FirstNamed xs name (i + d)
-  pub among : is_among name (names_in xs) ≡ is_among name (names_in (drop i xs))
+first_from_place : (xs : List Definition) (name : List ℕ) (d : ℕ) → place_of name (names_in xs) ≡ Some d → FirstNamed xs name d
+first_from_place [] name d h = absurd cc
+first_from_place (x ∷ xs) name d h = go (bytes_eq x.name name) refl (place_of name (names_in xs)) (first_from_place xs name) d h
+  where
+    go : (b : Bool) → bytes_eq x.name name ≡ b → (o : Option ℕ) → ((e : ℕ) → o ≡ Some e → FirstNamed xs name e) → (e : ℕ) → cond b (Some 0) (option_map suc o) ≡ Some e → FirstNamed (x ∷ xs) name e
+    go true same o rest zero is = same
+    go true same o rest (suc e) is = absurd cc
+    go false other None rest e is = absurd cc
+    go false other (Some k) rest zero is = absurd cc
+    go false other (Some k) rest (suc e) is = let one : k ≡ e = cc in (other, rest e (ap (λ n. Some n) one))
 
-dropped : (xs : List Definition) (i : ℕ) (x : Definition) → i < length xs → x ≡ get_or xs i x → drop i xs ≡ x ∷ drop (i + 1) xs
-dropped xs i x lt e = drop-cons xs i x lt ∙ ap (λ y. y ∷ drop (suc i) xs) (sym e) ∙ ap (λ n. x ∷ drop n xs) (sym (add-one i))
+-- the place of a name among the names is the first definition of the name
+pub finds_name : (xs : List Definition) (ns : List (List ℕ)) (name : List ℕ) (o : Option ℕ) → ns ≡ names_in xs → o ≡ place_of name ns → FindsName xs name o
+finds_name xs ns name None names is = among_is name (names_in xs) ∙ ap is_some (ap (place_of name) (sym names) ∙ sym is)
+finds_name xs ns name (Some d) names is = first_from_place xs name d (ap (place_of name) (sym names) ∙ sym is)
 
-pub passed_more : (xs : List Definition) (name : List ℕ) (i : ℕ) (x : Definition) → i < length xs → x ≡ get_or xs i x → bytes_eq x.name name ≡ false → Passed xs name i → Passed xs name (i + 1)
-passed_more xs name i x lt e other p =
-    let split = dropped xs i x lt e in
-    record {
-      later = λ d h.
-          let P : List Definition → Type 0 = λ ys. FirstNamed ys name (suc d) in
-          let Q : ℕ → Type 0 = λ n. FirstNamed xs name n in
-          let place : i + suc d ≡ i + 1 + d = omega arith in
-          subst Q place (p.later (suc d) (subst P (sym split) (other, h)));
-      among = p.among ∙ ap (λ ys. is_among name (names_in ys)) split ∙ ap (λ t. t || is_among name (names_in (drop (i + 1) xs))) other;
-    }
-
-pub passed_found : (xs : List Definition) (name : List ℕ) (i : ℕ) (x : Definition) → i < length xs → x ≡ get_or xs i x → bytes_eq x.name name ≡ true → Passed xs name i → FirstNamed xs name i
-passed_found xs name i x lt e same p =
-    let P : List Definition → Type 0 = λ ys. FirstNamed ys name 0 in
-    let Q : ℕ → Type 0 = λ n. FirstNamed xs name n in
-    let place : i + 0 ≡ i = omega arith in
-    subst Q place (p.later 0 (subst P (sym (dropped xs i x lt e)) same))
+-- a list without its last is what it was before
+pub popped : (xs all ys : List Definition) (x : Definition) (n : ℕ) → all ≡ xs ++ x ∷ [] → n ≡ length all → ys ≡ take (n - 1) all → ys ≡ xs
+popped xs all ys x n is size rest =
+    let count = ap length is in
+    let longer = length-append xs (x ∷ []) in
+    let less : n - 1 ≡ length xs = omega arith in
+    rest ∙ ap (λ m. take m all) less ∙ ap (take (length xs)) is ∙ take-append_seam xs (x ∷ [])
 
 pub set_defined : (xs : List Definition) (d node : ℕ) (x : Definition) → d < length xs → x ≡ get_or xs d x → slice_set xs d (record { name = x.name; node = node }) ≡ defined_at xs d node
 set_defined [] d node x lt e = refl

@@ -44,7 +44,7 @@ fields_at-push : (ts : List AvroType) (vs : List Field) (v : Field) → fields_a
 fields_at-push ts [] v = refl
 fields_at-push ts (w ∷ vs) v = ap (λ x. field w.name (type_at ts w.node) x) (fields_at-push ts vs v)
 
-names-push : (vs : List Field) (v : Field) → names_of_fields (vs ++ (v ∷ [])) ≡ names_of_fields vs ++ (v.name ∷ [])
+pub names-push : (vs : List Field) (v : Field) → names_of_fields (vs ++ (v ∷ [])) ≡ names_of_fields vs ++ (v.name ∷ [])
 names-push [] v = refl
 names-push (w ∷ vs) v = ap (λ x. w.name ∷ x) (names-push vs v)
 

@@ -11,7 +11,7 @@ use Rattle.avro_schema.specs.Canonical.{canonical_form}
 use Rattle.avro_schema.specs.Building.{FirstNamed, IsBuilt, DefinesIn, Makes, Finished}
 use Rattle.avro_schema.specs.declared.parts.Form.{Form}
 use Rattle.avro_schema.specs.declared.parts.Form.TheVariants.{Null, Boolean, Int, Long, Bytes, Text, Array, Map, Union, Fixed, Enum, Record, Named}
-use Rattle.avro_schema.specs.declared.parts.Definition.{Definition}
+use Rattle.avro_schema.specs.declared.definitions.Definition.{Definition}
 use Rattle.avro_schema.specs.declared.parts.Parts.{Parts}
 use Rattle.avro_schema.proofs.Grown.{type_is, length-types_of}
 
@@ -86,11 +86,11 @@ some_form [] k h = absurd (omega arith)
 some_form (f ∷ nodes) zero h = (f, refl)
 some_form (f ∷ nodes) (suc k) h = some_form nodes k (omega arith)
 
-leads_of : (p : Parts) (root : ℕ) (t : AvroType) (name : List ℕ) (d : ℕ) → Finished p root t → FirstNamed p.definitions.items name d → Leads p.nodes.items p.definitions.items root name d
+leads_of : (p : Parts) (root : ℕ) (t : AvroType) (name : List ℕ) (d : ℕ) → Finished p root t → FirstNamed p.definitions name d → Leads p.nodes.items p.definitions root name d
 leads_of p root t name d f first =
     let ts = types_of p.nodes.items in
     let whole : type_at ts root ≡ t = get_or_from_slice_get ts root t null f.stands in
-    let l = led ts p.definitions.items (definitions t) (named name) name d f.define (own_types t) first in
+    let l = led ts p.definitions (definitions t) (named name) name d f.define (own_types t) first in
     let far = slice_get_within ts l.x.node (definition_or (named name) name (definitions t)) l.type in
     let size = length-types_of p.nodes.items in
     let g = some_form p.nodes.items l.x.node (omega arith) in
@@ -105,7 +105,7 @@ leads_of p root t name d f first =
       type = ap (λ u. resolved u (named name)) whole ∙ sym made;
     }
 
-pub schema_of_parts : (p : Parts) (root : ℕ) (t : AvroType) → Finished p root t → ReadsAs true (canonical_form t) t → IsSchema p.nodes.items p.definitions.items root
+pub schema_of_parts : (p : Parts) (root : ℕ) (t : AvroType) → Finished p root t → ReadsAs true (canonical_form t) t → IsSchema p.nodes.items p.definitions root
 schema_of_parts p root t f reads =
     let P : AvroType → Type 0 = λ u. ReadsAs true (canonical_form u) u in
     let far = slice_get_within (types_of p.nodes.items) root t f.stands in
@@ -123,13 +123,13 @@ whole_is p root t f = get_or_from_slice_get (types_of p.nodes.items) root t null
 no_node : (k : ℕ) (name : List ℕ) (e : ℕ) → slice_get {X = Form} [] k ≡ Some (Named name e) → ⊥
 no_node k name e h = cc
 
-pub empty_built : (p : Parts) → p.nodes.items ≡ [] → p.definitions.items ≡ [] → IsBuilt p
+pub empty_built : (p : Parts) → p.nodes.items ≡ [] → p.definitions ≡ [] → IsBuilt p
 empty_built p n d =
     let P : List Form → Type 0 = λ fs. EachBefore 0 fs in
     record { before = subst P (sym n) tt; leads = λ k name e h. absurd (no_node k name e (ap (λ fs. slice_get fs k) (sym n) ∙ h)) }
 
-pub finished : (o : Outcome AvroType) (p q : Parts) (k : ℕ) → p.nodes.items ≡ [] → p.definitions.items ≡ [] → (m : Makes o p q k) → Finished q k m.t
+pub finished : (o : Outcome AvroType) (p q : Parts) (k : ℕ) → p.nodes.items ≡ [] → p.definitions ≡ [] → (m : Makes o p q k) → Finished q k m.t
 finished o p q k n d m =
     let P : List Definition → Type 0 = λ xs. DefinesIn (types_of q.nodes.items) xs (definitions m.t) in
-    let all : q.definitions.items ≡ m.grows.made = m.grows.definitions_are ∙ ap (λ xs. xs ++ m.grows.made) d in
+    let all : q.definitions ≡ m.grows.made = m.grows.definitions_are ∙ ap (λ xs. xs ++ m.grows.made) d in
     record { built = m.grows.built; stands = m.stands; define = subst P (sym all) m.grows.define }

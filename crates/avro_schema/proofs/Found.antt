@@ -10,7 +10,7 @@ use Rattle.avro_schema.specs.Picks.{kind_in, branches_in, symbols_in, fields_in,
 use Rattle.avro_schema.specs.declared.parts.Form.{Form}
 use Rattle.avro_schema.specs.declared.parts.Form.TheVariants.{Null, Boolean, Int, Long, Bytes, Text, Array, Map, Union, Fixed, Enum, Record, Named}
 use Rattle.avro_schema.specs.declared.parts.Field.{Field}
-use Rattle.avro_schema.specs.declared.parts.Definition.{Definition}
+use Rattle.avro_schema.specs.declared.definitions.Definition.{Definition}
 use Rattle.avro_schema.proofs.Grown.{type_is, length-types_of}
 
 -- ---- the form that a node resolves to
@@ -166,7 +166,7 @@ of_kind nodes root k at (Array c) lt b p r = (type_at (types_of nodes) c, r, ins
 of_kind nodes root k at (Map c) lt b p r = (type_at (types_of nodes) c, r, inside_stands nodes c (omega arith))
 of_kind nodes root k at (Union v) lt b p r = (branches_at (types_of nodes) v.items, r)
 of_kind nodes root k at (Fixed name size) lt b p r = (name, r)
-of_kind nodes root k at (Enum name v) lt b p r = (name, v.items, r)
+of_kind nodes root k at (Enum name v) lt b p r = (name, v, r)
 of_kind nodes root k at (Record name v) lt b p r = (name, fields_at (types_of nodes) v.items, r)
 of_kind nodes root k at (Named name d) lt b p r = absurd cc
 

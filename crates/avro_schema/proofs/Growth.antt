@@ -8,7 +8,7 @@ use Rattle.avro_schema.specs.Reading.{Outcome, is_among}
 use Rattle.avro_schema.specs.Building.{names_in, names_of, FirstNamed, IsBuilt, DefinesIn, Grows, Makes, Tells, defined_at}
 use Rattle.avro_schema.specs.declared.parts.Form.{Form}
 use Rattle.avro_schema.specs.declared.parts.Form.TheVariants.{Named}
-use Rattle.avro_schema.specs.declared.parts.Definition.{Definition}
+use Rattle.avro_schema.specs.declared.definitions.Definition.{Definition}
 use Rattle.avro_schema.specs.declared.parts.Parts.{Parts}
 use Rattle.avro_schema.specs.declared.error.SchemaNo.{SchemaNo}
 use Rattle.avro_schema.specs.declared.error.SchemaNo.TheVariants.{Want}
@@ -80,16 +80,16 @@ defines_both ts (x ∷ xs) ys (d ∷ ds) es h i = (h.0, h.1, defines_both ts xs 
 -- p has the nodes and definitions of q
 pub record Same (p q : Parts) : Type 0 where
   pub nodes : p.nodes.items ≡ q.nodes.items
-  pub definitions : p.definitions.items ≡ q.definitions.items
+  pub definitions : p.definitions ≡ q.definitions
 
-pub built_same : (p q : Parts) → p.nodes.items ≡ q.nodes.items → p.definitions.items ≡ q.definitions.items → IsBuilt p → IsBuilt q
+pub built_same : (p q : Parts) → p.nodes.items ≡ q.nodes.items → p.definitions ≡ q.definitions → IsBuilt p → IsBuilt q
 built_same p q n d b =
     let P : List Form → Type 0 = λ fs. EachBefore 0 fs in
     let Q : List Definition → Type 0 = λ xs. (k : ℕ) (name : List ℕ) (e : ℕ) → slice_get q.nodes.items k ≡ Some (Named name e) → FirstNamed xs name e in
     record { before = subst P n b.before; leads = subst Q d (λ k name e h. b.leads k name e (ap (λ fs. slice_get fs k) n ∙ h)) }
 
 pub grows_refl : (p : Parts) → IsBuilt p → Grows p p []
-grows_refl p b = record { more = []; nodes_are = sym (append-nil p.nodes.items); made = []; definitions_are = sym (append-nil p.definitions.items); define = tt; built = b }
+grows_refl p b = record { more = []; nodes_are = sym (append-nil p.nodes.items); made = []; definitions_are = sym (append-nil p.definitions); define = tt; built = b }
 
 pub grows_trans : (p q r : Parts) (ds es : List Defined) → Grows p q ds → Grows q r es → Grows p r (ds ++ es)
 grows_trans p q r ds es g h =
@@ -98,7 +98,7 @@ grows_trans p q r ds es g h =
       more = g.more ++ h.more;
       nodes_are = h.nodes_are ∙ ap (λ fs. fs ++ h.more) g.nodes_are ∙ append_assoc p.nodes.items g.more h.more;
       made = g.made ++ h.made;
-      definitions_are = h.definitions_are ∙ ap (λ xs. xs ++ h.made) g.definitions_are ∙ append_assoc p.definitions.items g.made h.made;
+      definitions_are = h.definitions_are ∙ ap (λ xs. xs ++ h.made) g.definitions_are ∙ append_assoc p.definitions g.made h.made;
       define = defines_both (types_of r.nodes.items) g.made h.made ds es (subst P (sym h.nodes_are) (defines_stay q.nodes.items h.more g.made ds g.define)) h.define;
       built = h.built;
     }
@@ -111,20 +111,20 @@ pub stands_later : (p q : Parts) (ds : List Defined) (k : ℕ) (t : AvroType) �
 stands_later p q ds k t g h = let P : List Form → Type 0 = λ fs. slice_get (types_of fs) k ≡ Some t in subst P (sym g.nodes_are) (stands_stay p.nodes.items g.more k t h)
 
 -- one node more
-pub built_push : (p q : Parts) (f : Form) → IsBuilt p → q.nodes.items ≡ p.nodes.items ++ (f ∷ []) → q.definitions.items ≡ p.definitions.items → AreBefore (length p.nodes.items) f
-    → ((name : List ℕ) (d : ℕ) → f ≡ Named name d → FirstNamed p.definitions.items name d) → IsBuilt q
+pub built_push : (p q : Parts) (f : Form) → IsBuilt p → q.nodes.items ≡ p.nodes.items ++ (f ∷ []) → q.definitions ≡ p.definitions → AreBefore (length p.nodes.items) f
+    → ((name : List ℕ) (d : ℕ) → f ≡ Named name d → FirstNamed p.definitions name d) → IsBuilt q
 built_push p q f b n d before named =
     let P : List Form → Type 0 = λ fs. EachBefore 0 fs in
     let Q : List Definition → Type 0 = λ xs. (k : ℕ) (name : List ℕ) (e : ℕ) → slice_get q.nodes.items k ≡ Some (Named name e) → FirstNamed xs name e in
     let leads = λ (k : ℕ) (name : List ℕ) (e : ℕ) (h : slice_get q.nodes.items k ≡ Some (Named name e)).
-    let G : (slice_get p.nodes.items k ≡ Some (Named name e)) ⊎ (f ≡ Named name e) → Type 0 = λ s. FirstNamed p.definitions.items name e in
+    let G : (slice_get p.nodes.items k ≡ Some (Named name e)) ⊎ (f ≡ Named name e) → Type 0 = λ s. FirstNamed p.definitions name e in
     elim (get_push p.nodes.items f k (Named name e) (ap (λ fs. slice_get fs k) (sym n) ∙ h)) as G [ inl old ↦ b.leads k name e old | inr new ↦ named name e new ] in
     record { before = subst P (sym n) (each_push 0 p.nodes.items f (length p.nodes.items) b.before (omega arith) before); leads = subst Q (sym d) leads }
 
-pub pushed : (p q : Parts) (f : Form) → IsBuilt p → q.nodes.items ≡ p.nodes.items ++ (f ∷ []) → q.definitions.items ≡ p.definitions.items → AreBefore (length p.nodes.items) f
-    → ((name : List ℕ) (d : ℕ) → f ≡ Named name d → FirstNamed p.definitions.items name d) → Grows p q []
+pub pushed : (p q : Parts) (f : Form) → IsBuilt p → q.nodes.items ≡ p.nodes.items ++ (f ∷ []) → q.definitions ≡ p.definitions → AreBefore (length p.nodes.items) f
+    → ((name : List ℕ) (d : ℕ) → f ≡ Named name d → FirstNamed p.definitions name d) → Grows p q []
 pushed p q f b n d before named =
-    record { more = f ∷ []; nodes_are = n; made = []; definitions_are = d ∙ sym (append-nil p.definitions.items); define = tt; built = built_push p q f b n d before named }
+    record { more = f ∷ []; nodes_are = n; made = []; definitions_are = d ∙ sym (append-nil p.definitions); define = tt; built = built_push p q f b n d before named }
 
 pub push_stands : (p q : Parts) (f : Form) → q.nodes.items ≡ p.nodes.items ++ (f ∷ []) → slice_get (types_of q.nodes.items) (length p.nodes.items) ≡ Some (type_of (types_of p.nodes.items) f)
 push_stands p q f n =
@@ -134,7 +134,7 @@ push_stands p q f n =
 
 -- a node that is added behind what was read
 pub made_push : (o : Outcome AvroType) (p q r : Parts) (f : Form) (t : AvroType) (k : ℕ) (ds : List Defined) → Grows p q ds → o ≡ Ok (record { value = t; names = names_of q }) → k ≡ length q.nodes.items → r.nodes.items ≡ q.nodes.items ++ (f ∷ [])
-    → r.definitions.items ≡ q.definitions.items → AreBefore (length q.nodes.items) f → ((name : List ℕ) (d : ℕ) → f ≡ Named name d → FirstNamed q.definitions.items name d) → type_of (types_of q.nodes.items) f ≡ t → definitions t ≡ ds
+    → r.definitions ≡ q.definitions → AreBefore (length q.nodes.items) f → ((name : List ℕ) (d : ℕ) → f ≡ Named name d → FirstNamed q.definitions name d) → type_of (types_of q.nodes.items) f ≡ t → definitions t ≡ ds
     → Makes o p r k
 made_push o p q r f t k ds g is place n d before named type defines =
     let P : ℕ → Type 0 = λ i. slice_get (types_of r.nodes.items) i ≡ Some t in
@@ -146,7 +146,7 @@ made_push o p q r f t k ds g is place n d before named type defines =
     }
 
 pub tells_push : (o : Outcome AvroType) (p q r : Parts) (f : Form) (t : AvroType) (res : Result ℕ SchemaNo) (ds : List Defined) → Grows p q ds → o ≡ Ok (record { value = t; names = names_of q })
-    → IfOk res (λ k. (k ≡ length q.nodes.items) × (r.nodes.items ≡ q.nodes.items ++ (f ∷ []))) → IfErr res (λ e. e ≡ Want) → r.definitions.items ≡ q.definitions.items → AreBefore (length q.nodes.items) f
-    → ((name : List ℕ) (d : ℕ) → f ≡ Named name d → FirstNamed q.definitions.items name d) → type_of (types_of q.nodes.items) f ≡ t → definitions t ≡ ds → Tells o p r res
+    → IfOk res (λ k. (k ≡ length q.nodes.items) × (r.nodes.items ≡ q.nodes.items ++ (f ∷ []))) → IfErr res (λ e. e ≡ Want) → r.definitions ≡ q.definitions → AreBefore (length q.nodes.items) f
+    → ((name : List ℕ) (d : ℕ) → f ≡ Named name d → FirstNamed q.definitions name d) → type_of (types_of q.nodes.items) f ≡ t → definitions t ≡ ds → Tells o p r res
 tells_push o p q r f t (Ok k) ds g is ok want d before named type defines = made_push o p q r f t k ds g is ok.0 ok.1 d before named type defines
 tells_push o p q r f t (Err e) ds g is ok want d before named type defines = inr want

@@ -1,5 +1,6 @@
 pub mod Grown
 pub mod Found
+pub mod NameLists
 pub mod NameLemmas
 pub mod DefinitionLemmas
 pub mod MemberLemmas
@@ -8,7 +9,6 @@ pub mod NamedLemmas
 pub mod Outcomes
 pub mod ListLemmas
 pub mod DefinedLemmas
-pub mod Repeats
 pub mod Closing
 pub mod FieldLoops
 pub mod BranchLoops

@@ -57,7 +57,7 @@ by_other canonical names namespace name h =
     other_chosen names _ (bytes_eq name (codes "null")) (bytes_eq name (codes "boolean")) (bytes_eq name (codes "int")) (bytes_eq name (codes "long")) (bytes_eq name (codes "bytes")) (bytes_eq name (codes "string")) h
 
 pub primitive_tells : (p q : Parts) (canonical : Bool) (namespace name : List ℕ) (form : Form) (res : Result ℕ SchemaNo) → IsBuilt p → primitive_form name ≡ Some form
-    → IfOk res (λ k. (k ≡ length p.nodes.items) × (q.nodes.items ≡ p.nodes.items ++ (form ∷ []))) → IfErr res (λ e. e ≡ Want) → q.definitions.items ≡ p.definitions.items → Tells (type_by_name canonical (names_of p) namespace name) p q res
+    → IfOk res (λ k. (k ≡ length p.nodes.items) × (q.nodes.items ≡ p.nodes.items ++ (form ∷ []))) → IfErr res (λ e. e ≡ Want) → q.definitions ≡ p.definitions → Tells (type_by_name canonical (names_of p) namespace name) p q res
 primitive_tells p q canonical namespace name form res b h ok want d =
     let by = by_primitive canonical (names_of p) namespace name form h in
     tells_push _ p p q form (type_of (types_of p.nodes.items) form) res [] (grows_refl p b) (by.1 (types_of p.nodes.items)) ok want d (by.0.0 (length p.nodes.items)) (λ n i e. absurd (by.0.1 n i e)) refl (by.0.2 (types_of p.nodes.items))
@@ -71,18 +71,18 @@ known_is canonical names namespace name h f = by_other canonical names namespace
 pub tells_along : (o u : Outcome AvroType) (p q : Parts) (res : Result ℕ SchemaNo) → o ≡ u → Tells u p q res → Tells o p q res
 tells_along o u p q res e h = let P : Outcome AvroType → Type 0 = λ x. Tells x p q res in subst P (sym e) h
 
-pub reference_tells : (p q : Parts) (name : List ℕ) (d : ℕ) (res : Result ℕ SchemaNo) → IsBuilt p → FirstNamed p.definitions.items name d
-    → IfOk res (λ k. (k ≡ length p.nodes.items) × (q.nodes.items ≡ p.nodes.items ++ (Named name d ∷ []))) → IfErr res (λ e. e ≡ Want) → q.definitions.items ≡ p.definitions.items → Tells (known (names_of p) name) p q res
+pub reference_tells : (p q : Parts) (name : List ℕ) (d : ℕ) (res : Result ℕ SchemaNo) → IsBuilt p → FirstNamed p.definitions name d
+    → IfOk res (λ k. (k ≡ length p.nodes.items) × (q.nodes.items ≡ p.nodes.items ++ (Named name d ∷ []))) → IfErr res (λ e. e ≡ Want) → q.definitions ≡ p.definitions → Tells (known (names_of p) name) p q res
 reference_tells p q name d res b first ok want same =
     let is : known (names_of p) name ≡ Ok (record { value = types.named name; names = names_of p }) =
-    ap (λ t. cond t (reads (types.named name) (names_of p)) (Err UnknownName)) (first_among p.definitions.items name d first) in
-    let named : (n : List ℕ) (i : ℕ) → Named name d ≡ Named n i → FirstNamed p.definitions.items n i = λ n i e.
-    let P : List ℕ → Type 0 = λ x. FirstNamed p.definitions.items x d in
-    let Q : ℕ → Type 0 = λ x. FirstNamed p.definitions.items n x in
+    ap (λ t. cond t (reads (types.named name) (names_of p)) (Err UnknownName)) (first_among p.definitions name d first) in
+    let named : (n : List ℕ) (i : ℕ) → Named name d ≡ Named n i → FirstNamed p.definitions n i = λ n i e.
+    let P : List ℕ → Type 0 = λ x. FirstNamed p.definitions x d in
+    let Q : ℕ → Type 0 = λ x. FirstNamed p.definitions n x in
     let names : name ≡ n = cc in
     let numbers : d ≡ i = cc in
     subst Q numbers (subst P names first) in
     tells_push _ p p q (Named name d) (types.named name) res [] (grows_refl p b) is ok want same tt named refl refl
 
-pub unknown_why : (p : Parts) (name : List ℕ) → FindsName p.definitions.items name None → Why (known (names_of p) name) UnknownName
+pub unknown_why : (p : Parts) (name : List ℕ) → FindsName p.definitions name None → Why (known (names_of p) name) UnknownName
 unknown_why p name h = inl (ap (λ t. cond t (reads (types.named name) (names_of p)) (Err UnknownName)) h)

@@ -11,7 +11,7 @@ use Rattle.avro_schema.specs.Reading.{is_among, ReadsAs}
 use Rattle.avro_schema.specs.Forms.{type_at, types_of, IsSchema}
 use Rattle.avro_schema.specs.Nodes.{SchemaValue, tree_of}
 use Rattle.avro_schema.specs.declared.parts.Form.{Form}
-use Rattle.avro_schema.specs.declared.parts.Definition.{Definition}
+use Rattle.avro_schema.specs.declared.definitions.Definition.{Definition}
 use Rattle.avro_schema.specs.Distinct.{AreDistinct, HasNames, BranchesHaveNames, FieldsHaveNames, branch_names, field_names}
 use Rattle.avro_schema.proofs.NameLemmas.{and_first, and_second}
 use Rattle.avro_schema.proofs.PlainNames.{is_plain_byte, is_plain_text, part_plain, definable_plain, same_bytes}

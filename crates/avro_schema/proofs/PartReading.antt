@@ -23,7 +23,7 @@ use Rattle.avro_schema.proofs.BranchLoops.{branches_done}
 
 pub union_tells : (tree : Tree) (below : Reader) (namespace : List ℕ) (js : Items) (p q r : Parts) (left cs : List ℕ) (f : Form) (res : Result ℕ SchemaNo) → left ≡ [] → BranchesSoFar tree below namespace js p q left cs
     → ((n : ℕ) → All (λ k. k < n) cs → AreBefore n f) → ((m : List ℕ) (e : ℕ) → f ≡ Named m e → ⊥) → ((ts : List AvroType) → type_of ts f ≡ types.union (branches_at ts cs))
-    → IfOk res (λ n. (n ≡ length q.nodes.items) × (r.nodes.items ≡ q.nodes.items ++ (f ∷ []))) → IfErr res (λ e. e ≡ Want) → r.definitions.items ≡ q.definitions.items → Tells (union_read below (names_of p) namespace js) p r res
+    → IfOk res (λ n. (n ≡ length q.nodes.items) × (r.nodes.items ≡ q.nodes.items ++ (f ∷ []))) → IfErr res (λ e. e ≡ Want) → r.definitions ≡ q.definitions → Tells (union_read below (names_of p) namespace js) p r res
 union_tells tree below namespace js p q r left cs f res e s before plain type ok want d =
     tells_push _ p q r f (types.union (branches_at (types_of q.nodes.items) cs)) res (branch_definitions (branches_at (types_of q.nodes.items) cs)) s.grows
     (next_ok (branches_read below (names_of p) namespace [] js) (record { value = branches_at (types_of q.nodes.items) cs; names = names_of q }) (λ bs. reads (types.union bs.value) bs.names) (branches_done tree below namespace js p q left cs e s))

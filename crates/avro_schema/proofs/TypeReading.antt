@@ -197,7 +197,7 @@ made_place : (o : Outcome AvroType) (p q : Parts) (k : ℕ) → (m : Makes o p q
 made_place o p q k m = get_or_from_slice_get (types_of q.nodes.items) k m.t types.null m.stands
 
 pub array_tells : (below : Reader) (namespace : List ℕ) (ms : Members) (p q r : Parts) (k : ℕ) (res : Result ℕ SchemaNo) → Makes (part_type below (names_of p) namespace (last_member (codes "items") ms)) p q k
-    → IfOk res (λ n. (n ≡ length q.nodes.items) × (r.nodes.items ≡ q.nodes.items ++ (Array k ∷ []))) → IfErr res (λ e. e ≡ Want) → r.definitions.items ≡ q.definitions.items → Tells (array_read below (names_of p) namespace ms) p r res
+    → IfOk res (λ n. (n ≡ length q.nodes.items) × (r.nodes.items ≡ q.nodes.items ++ (Array k ∷ []))) → IfErr res (λ e. e ≡ Want) → r.definitions ≡ q.definitions → Tells (array_read below (names_of p) namespace ms) p r res
 array_tells below namespace ms p q r k res m ok want d =
     let far = slice_get_within (types_of q.nodes.items) k m.t m.stands in
     let size = length-types_of q.nodes.items in
@@ -206,7 +206,7 @@ array_tells below namespace ms p q r k res m ok want d =
     ok want d (omega arith) (λ name e x. absurd cc) (ap (λ t. types.array t) (made_place _ p q k m)) refl
 
 pub map_tells : (below : Reader) (namespace : List ℕ) (ms : Members) (p q r : Parts) (k : ℕ) (res : Result ℕ SchemaNo) → Makes (part_type below (names_of p) namespace (last_member (codes "values") ms)) p q k
-    → IfOk res (λ n. (n ≡ length q.nodes.items) × (r.nodes.items ≡ q.nodes.items ++ (Map k ∷ []))) → IfErr res (λ e. e ≡ Want) → r.definitions.items ≡ q.definitions.items → Tells (map_read below (names_of p) namespace ms) p r res
+    → IfOk res (λ n. (n ≡ length q.nodes.items) × (r.nodes.items ≡ q.nodes.items ++ (Map k ∷ []))) → IfErr res (λ e. e ≡ Want) → r.definitions ≡ q.definitions → Tells (map_read below (names_of p) namespace ms) p r res
 map_tells below namespace ms p q r k res m ok want d =
     let far = slice_get_within (types_of q.nodes.items) k m.t m.stands in
     let size = length-types_of q.nodes.items in

@@ -12,23 +12,19 @@ use Rattle.avro_schema.specs.Canonical.{canonical_form}
 use Rattle.avro_schema.specs.Nodes.{SchemaValue}
 use Rattle.avro_schema.specs.Refusals.{Answers}
 use Rattle.avro_schema.specs.Names.{are_parts}
+pub use Rattle.avro_schema.specs.Definitions.{names_in}
 use Rattle.avro_schema.specs.Forms.{type_at, branches_at, fields_at, types_of, EachBefore}
 use Rattle.avro_schema.specs.declared.parts.Form.{Form}
 use Rattle.avro_schema.specs.declared.parts.Form.TheVariants.{Null, Boolean, Int, Long, Bytes, Text, Named}
 use Rattle.avro_schema.specs.declared.parts.Field.{Field}
-use Rattle.avro_schema.specs.declared.parts.Definition.{Definition}
+use Rattle.avro_schema.specs.declared.definitions.Definition.{Definition}
 use Rattle.avro_schema.specs.declared.parts.Parts.{Parts}
 use Rattle.avro_schema.specs.declared.error.SchemaNo.{SchemaNo}
 use Rattle.avro_schema.specs.declared.error.SchemaNo.TheVariants.{Want}
 
--- the fullnames of definitions
-abbrev pub names_in : List Definition → List (List ℕ)
-names_in [] = []
-names_in (x ∷ xs) = x.name ∷ names_in xs
-
 -- the fullnames defined so far
 abbrev pub names_of : Parts → List (List ℕ)
-names_of p = names_in p.definitions.items
+names_of p = names_in p.definitions
 
 -- number d is the first definition of the name
 abbrev pub FirstNamed : List Definition → List ℕ → ℕ → Type 0
@@ -50,7 +46,7 @@ defined_at (x ∷ xs) (suc d) node = x ∷ defined_at xs d node
 -- each node's parts are before it, and each reference leads to the first definition of its name
 pub record IsBuilt (p : Parts) : Type 0 where
   pub before : EachBefore 0 p.nodes.items
-  pub leads : (k : ℕ) (name : List ℕ) (d : ℕ) → slice_get p.nodes.items k ≡ Some (Named name d) → FirstNamed p.definitions.items name d
+  pub leads : (k : ℕ) (name : List ℕ) (d : ℕ) → slice_get p.nodes.items k ≡ Some (Named name d) → FirstNamed p.definitions name d
 
 -- the definitions are those of these types
 abbrev pub DefinesIn : List AvroType → List Definition → List Defined → Type 0
@@ -64,7 +60,7 @@ pub record Grows (old new : Parts) (ds : List Defined) : Type 0 where
   pub more : List Form
   pub nodes_are : new.nodes.items ≡ old.nodes.items ++ more
   pub made : List Definition
-  pub definitions_are : new.definitions.items ≡ old.definitions.items ++ made
+  pub definitions_are : new.definitions ≡ old.definitions ++ made
   pub define : DefinesIn (types_of new.nodes.items) made ds
   pub built : IsBuilt new
 
@@ -152,13 +148,13 @@ pub record BranchesSoFar (tree : Tree) (below : Reader) (namespace : List ℕ) (
 pub record Finishes (old new : Parts) (d : ℕ) (f : Form) (k : ℕ) : Type 0 where
   pub place : k ≡ length old.nodes.items
   pub nodes : new.nodes.items ≡ old.nodes.items ++ (f ∷ [])
-  pub definitions : new.definitions.items ≡ defined_at old.definitions.items d k
+  pub definitions : new.definitions ≡ defined_at old.definitions d k
 
 -- the outcome is the fullname, and it is that of a definition whose node is to come
 pub record NamesNew (o : Result (List ℕ) SchemaNo) (old new : Parts) (name : List ℕ) (d : ℕ) : Type 0 where
   pub is : o ≡ Ok name
-  pub place : d ≡ length old.definitions.items
-  pub definitions : new.definitions.items ≡ old.definitions.items ++ ((record { name = name; node = 0 }) ∷ [])
+  pub place : d ≡ length old.definitions
+  pub definitions : new.definitions ≡ old.definitions ++ ((record { name = name; node = 0 }) ∷ [])
   pub nodes : new.nodes.items ≡ old.nodes.items
   pub parts : are_parts name ≡ true
 
@@ -215,7 +211,7 @@ pub record SymbolsSoFar (tree : Tree) (js : Items) (rest : List ℕ) (seen : Lis
 pub record Finished (p : Parts) (root : ℕ) (t : AvroType) : Type 0 where
   pub built : IsBuilt p
   pub stands : slice_get (types_of p.nodes.items) root ≡ Some t
-  pub define : DefinesIn (types_of p.nodes.items) p.definitions.items (definitions t)
+  pub define : DefinesIn (types_of p.nodes.items) p.definitions (definitions t)
 
 -- where it is short enough, the canonical form reads as the type
 abbrev pub FormReads : AvroType → Type 0

@@ -6,7 +6,7 @@ use Rattle.avro_schema.specs.Reading.{ReadsAs}
 use Rattle.avro_schema.specs.declared.parts.Form.{Form}
 use Rattle.avro_schema.specs.declared.parts.Form.TheVariants.{Null, Boolean, Int, Long, Bytes, Text, Array, Map, Union, Fixed, Enum, Record, Named}
 use Rattle.avro_schema.specs.declared.parts.Field.{Field}
-use Rattle.avro_schema.specs.declared.parts.Definition.{Definition}
+use Rattle.avro_schema.specs.declared.definitions.Definition.{Definition}
 
 -- the type at a node
 abbrev pub type_at : List AvroType → ℕ → AvroType
@@ -32,7 +32,7 @@ type_of ts (Array k) = array (type_at ts k)
 type_of ts (Map k) = map (type_at ts k)
 type_of ts (Union v) = union (branches_at ts v.items)
 type_of ts (Fixed name size) = fixed name size
-type_of ts (Enum name v) = enum_ name v.items
+type_of ts (Enum name v) = enum_ name v
 type_of ts (Record name v) = record_ name (fields_at ts v.items)
 type_of ts (Named name d) = named name
 

@@ -1,5 +1,7 @@
 pub mod Types
 pub mod Names
+pub mod NameList
+pub mod Definitions
 pub mod Canonical
 pub mod Reading
 pub mod Refusals

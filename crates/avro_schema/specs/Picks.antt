@@ -27,7 +27,7 @@ branches_in (Union v) = v.items
 branches_in f = []
 
 abbrev pub symbols_in : Form → List (List ℕ)
-symbols_in (Enum name v) = v.items
+symbols_in (Enum name v) = v
 symbols_in f = []
 
 abbrev pub fields_in : Form → List Field

@@ -55,8 +55,8 @@ fn write_fixed(alloc: Global, name: &str, size: u32, text: &mut Text) -> Result<
 }
 
 /// An enum's symbols up to its end.
-fn write_symbols(symbols: &Vec<Text>, text: &mut Text) -> Result<(), Want>
-    ensures { OnOk result (text.new ≡ text.old ++ symbol_list symbols.now.items) }
+fn write_symbols(symbols: &[Text], text: &mut Text) -> Result<(), Want>
+    ensures { OnOk result (text.new ≡ text.old ++ symbol_list symbols.now) }
 {
     let mut first = true;
     for symbol in symbols {
@@ -98,7 +98,7 @@ pub(crate) fn write_type(
         Form::Fixed(name, size) => write_fixed(alloc, name.as_str(), *size, text),
         Form::Enum(name, symbols) => {
             push_head(text, name.as_str(), ",\"type\":\"enum\",\"symbols\":[")?;
-            write_symbols(symbols, text)
+            write_symbols(symbols.as_slice(), text)
         }
         Form::Record(name, fields) => {
             push_head(text, name.as_str(), ",\"type\":\"record\",\"fields\":[")?;

@@ -2,10 +2,12 @@
 #![tactic(auto)]
 
 mod canonical;
+mod definitions;
 mod error;
 mod law;
 mod lookup;
 mod members;
+mod name_list;
 mod named;
 mod names;
 mod parts;

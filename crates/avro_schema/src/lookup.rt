@@ -3,22 +3,24 @@ ghost use Rattle.avro_schema.specs.Types.{AvroType, Branches, Fields, union, enu
 ghost use Rattle.avro_schema.specs.Nodes.{tree_of, Stands, HasNode, Resolves, StandForBranches, StandForFields, IsKindOf, IsOfKind};
 ghost use Rattle.avro_schema.specs.Forms.{IsSchema, IsFormOf};
 ghost use Rattle.avro_schema.specs.Distinct.{HasNames};
+ghost use Rattle.avro_schema.specs.NameList.{place_of};
 
-use crate::parts::{Definition, Field, Form};
-use crate::pick::{branches_in, fields_in, kind_in, name_in, symbols_in};
+use crate::definitions::Definitions;
+use crate::parts::{Field, Form};
+use crate::pick::{branches_in, fields_in, kind_in, name_in, symbol_in, symbols_in};
 use crate::schema::{Kind, Schema};
 use gate_io::Text;
 
 /// The form of a node, or of the definition that it refers to.
-fn form_of<'a>(nodes: &'a Vec<Form>, definitions: &Vec<Definition>, node: u32) -> &'a Form
-    requires schema { (root : ℕ) × IsSchema nodes.now.items definitions.now.items root }
+fn form_of<'a>(nodes: &'a Vec<Form>, definitions: &Definitions, node: u32) -> &'a Form
+    requires schema { (root : ℕ) × IsSchema nodes.now.items definitions.now root }
     requires inside { node < length nodes.now.items }
-    ensures { (root : ℕ) → IsSchema nodes.now.items definitions.now.items root
+    ensures { (root : ℕ) → IsSchema nodes.now.items definitions.now root
         → IsFormOf nodes.now.items root node result.now }
 {
     let form = &nodes[node as usize];
     match form {
-        Form::Named(_, definition) => &nodes[definitions[*definition as usize].node as usize],
+        Form::Named(_, definition) => &nodes[definitions.get(*definition as usize).node as usize],
         _ => form,
     }
 }
@@ -62,6 +64,18 @@ impl Schema {
             → result.now ≡ symbols }
     {
         symbols_in(form_of(&self.parts.nodes, &self.parts.definitions, node))
+    }
+
+    /// The place of a name among the symbols of an enum, found by a map.
+    pub fn symbol(&self, node: u32, symbol: &str) -> Option<usize>
+        requires { (name : List ℕ) × (symbols : List (List ℕ)) × Resolves self.now node (enum_ name symbols) }
+        ensures { (name : List ℕ) (symbols : List (List ℕ)) → Resolves self.now node (enum_ name symbols)
+            → result ≡ place_of symbol.now symbols }
+    {
+        symbol_in(
+            form_of(&self.parts.nodes, &self.parts.definitions, node),
+            symbol,
+        )
     }
 
     /// The fields of a record in order.

@@ -1,16 +1,17 @@
-ghost use Rattle.std.specs.Prelude.{◌≡◌, ◌<◌, [], length, All, Option, IfOk, IfErr, true};
+ghost use Rattle.std.specs.Prelude.{◌≡◌, ◌<◌, ◌++◌, [], ◌∷◌, length, not, Option, IfOk, IfErr, OnOk, true};
 ghost use Rattle.json_span.specs.Json.{Json, Members, Items, object};
 ghost use Rattle.json_span.specs.Nodes.{Stands, StandForItems};
 ghost use Rattle.avro_schema.specs.Names.{are_parts};
 ghost use Rattle.avro_schema.specs.Reading.{is_among, last_member, type_by_name, known, full_name, given_name, defined_name, part_name, symbols_read, symbols_of, digits_size, size_of, enum_read, fixed_read};
-ghost use Rattle.avro_schema.specs.Building.{names_of, IsBuilt, IsMember, Tells, Gives, Why, NamesNew, names_of_fields, names_of_branches, primitive_form};
+ghost use Rattle.avro_schema.specs.Building.{names_of, IsBuilt, IsMember, Tells, Gives, Why, NamesNew, primitive_form};
 ghost use Rattle.avro_schema.specs.Types.{branch_name};
 ghost use Rattle.avro_schema.specs.Forms.{type_at, types_of, EachBefore};
 
 use crate::error::SchemaNo;
 use crate::members::{items_at, member, member_text, text_at};
+use crate::name_list::NameList;
 use crate::names::{has_dot, in_namespace, is_definable, is_float, is_part};
-use crate::parts::{Field, Form, Parts};
+use crate::parts::{Form, Parts};
 use crate::pick::name_in;
 use gate_io::Text;
 use json_span::{Kind, Tree};
@@ -62,7 +63,7 @@ fn reference(name: Text, parts: &mut Parts) -> Result<u32, SchemaNo>
     requires { IsBuilt parts.old }
     ensures { Tells (known (names_of parts.old) name) parts.old parts.new result }
 {
-    let Some(found) = parts.find(name.as_str()) else {
+    let Some(found) = parts.definitions.find(name.as_str()) else {
         return Err(SchemaNo::UnknownName);
     };
     let Ok(definition) = u32::try_from(found) else {
@@ -155,7 +156,7 @@ pub(crate) fn defined_name(
         member(tree, node, "namespace"),
     );
     match given {
-        Ok(name) => match parts.find(name.as_str()) {
+        Ok(name) => match parts.definitions.find(name.as_str()) {
             Some(_) => Err(SchemaNo::Redefined),
             None => {
                 if is_definable(name.as_str()) {
@@ -186,12 +187,9 @@ pub(crate) fn define(
         → IfErr result (Why (defined_name canonical (names_of parts.old) enclosing.now ms)) }
 {
     match defined_name(alloc, tree, canonical, enclosing, node, parts) {
-        Ok(name) => match Text::from_str(alloc, name.as_str()) {
-            Ok(copy) => match parts.define(copy) {
-                Ok(definition) => Ok((name, definition)),
-                Err(e) => Err(e),
-            },
-            Err(_) => Err(SchemaNo::Want),
+        Ok(name) => match parts.definitions.add(alloc, name.as_str()) {
+            Ok(definition) => Ok((name, definition)),
+            Err(e) => Err(e),
         },
         Err(e) => Err(e),
     }
@@ -243,18 +241,17 @@ pub(crate) fn read_fixed(
     }
 }
 
-/// A field's name, after those before it.
-pub(crate) fn field_name(
+/// A field's name or a symbol, which is put behind those before it.
+pub(crate) fn part_name<'a>(
     alloc: Global,
-    tree: &Tree,
+    tree: &'a Tree,
     node: Option<u32>,
-    seen: &Vec<Field>,
-) -> Result<Text, SchemaNo>
+    seen: &mut NameList,
+) -> Result<&'a str, SchemaNo>
     requires { (o : Option Json) × IsMember tree.now o node }
-    ensures ok { (o : Option Json) → IsMember tree.now o node
-        → IfOk result (λ t. part_name (names_of_fields seen.now.items) o ≡ Ok t) }
-    ensures err { (o : Option Json) → IsMember tree.now o node
-        → IfErr result (Why (part_name (names_of_fields seen.now.items) o)) }
+    ensures ok { (o : Option Json) → IsMember tree.now o node → IfOk result (λ t. part_name seen.old o ≡ Ok t.now) }
+    ensures seen { IfOk result (λ t. seen.new ≡ seen.old ++ t.now ∷ []) }
+    ensures err { (o : Option Json) → IsMember tree.now o node → IfErr result (Why (part_name seen.old o)) }
 {
     let Some(name) = member_text(tree, node) else {
         return Err(SchemaNo::BadType);
@@ -262,84 +259,38 @@ pub(crate) fn field_name(
     if !is_part(name.as_bytes()) {
         return Err(SchemaNo::BadName);
     }
-    if has_field(name, seen) {
-        return Err(SchemaNo::BadType);
-    }
-    match Text::from_str(alloc, name) {
-        Ok(text) => Ok(text),
+    match seen.push(alloc, name) {
+        Ok(true) => Ok(name),
+        Ok(false) => Err(SchemaNo::BadType),
         Err(_) => Err(SchemaNo::Want),
     }
 }
 
-fn has_field(name: &str, fields: &Vec<Field>) -> bool
-    ensures { result ≡ is_among name.now (names_of_fields fields.now.items) }
-{
-    for field in fields {
-        if field.name.as_str() == name {
-            return true;
-        }
-    }
-    false
-}
-
-/// A branch of the kind or the fullname of this type is among the branches.
-pub(crate) fn is_repeated(parts: &Parts, branches: &Vec<u32>, node: u32) -> bool
+/// Puts the kind or the fullname of a branch behind those before it. False if it is among them.
+pub(crate) fn add_branch(
+    alloc: Global,
+    parts: &Parts,
+    node: u32,
+    seen: &mut NameList,
+) -> Result<bool, SchemaNo>
     requires before { EachBefore 0 parts.now.nodes.items }
     requires node { node < length parts.now.nodes.items }
-    requires inside { All (λ k. k < length parts.now.nodes.items) branches.now.items }
-    ensures { result ≡ is_among (branch_name (type_at (types_of parts.now.nodes.items) node))
-        (names_of_branches (types_of parts.now.nodes.items) branches.now.items) }
+    ensures added { IfOk result (λ new. new
+        ≡ not (is_among (branch_name (type_at (types_of parts.now.nodes.items) node)) seen.old)) }
+    ensures seen { OnOk result (seen.new
+        ≡ seen.old ++ branch_name (type_at (types_of parts.now.nodes.items) node) ∷ []) }
+    ensures want { IfErr result (λ e. e ≡ SchemaNo.Want) }
 {
-    let name = name_in(&parts.nodes[node as usize]);
-    for branch in branches {
-        if name_in(&parts.nodes[*branch as usize]) == name {
-            return true;
-        }
-    }
-    false
-}
-
-/// A symbol, after those before it.
-fn part_name(
-    alloc: Global,
-    tree: &Tree,
-    node: Option<u32>,
-    seen: &Vec<Text>,
-) -> Result<Text, SchemaNo>
-    requires { (o : Option Json) × IsMember tree.now o node }
-    ensures ok { (o : Option Json) → IsMember tree.now o node → IfOk result (λ t. part_name seen.now.items o ≡ Ok t) }
-    ensures err { (o : Option Json) → IsMember tree.now o node → IfErr result (Why (part_name seen.now.items o)) }
-{
-    let Some(name) = member_text(tree, node) else {
-        return Err(SchemaNo::BadType);
-    };
-    if !is_part(name.as_bytes()) {
-        return Err(SchemaNo::BadName);
-    }
-    if is_among(name, seen) {
-        return Err(SchemaNo::BadType);
-    }
-    match Text::from_str(alloc, name) {
-        Ok(text) => Ok(text),
+    match seen.push(alloc, name_in(&parts.nodes[node as usize])) {
+        Ok(is_new) => Ok(is_new),
         Err(_) => Err(SchemaNo::Want),
     }
-}
-
-fn is_among(name: &str, names: &Vec<Text>) -> bool
-    ensures { result ≡ is_among name.now names.now.items }
-{
-    for other in names {
-        if other.as_str() == name {
-            return true;
-        }
-    }
-    false
 }
 
 /// The symbols of an enum, by the member of this node.
-fn symbols_of(alloc: Global, tree: &Tree, node: Option<u32>) -> Result<Vec<Text>, SchemaNo>
+fn symbols_of(alloc: Global, tree: &Tree, node: Option<u32>) -> Result<NameList, SchemaNo>
     requires { (o : Option Json) × IsMember tree.now o node }
-    ensures ok { (o : Option Json) → IsMember tree.now o node → IfOk result (λ v. symbols_of o ≡ Ok v.items) }
+    ensures ok { (o : Option Json) → IsMember tree.now o node → IfOk result (λ v. symbols_of o ≡ Ok v) }
     ensures err { (o : Option Json) → IsMember tree.now o node → IfErr result (Why (symbols_of o)) }
 {
     let Some(at) = node else {
@@ -348,29 +299,21 @@ fn symbols_of(alloc: Global, tree: &Tree, node: Option<u32>) -> Result<Vec<Text>
     let Some(items) = items_at(tree, at) else {
         return Err(SchemaNo::BadType);
     };
-    match symbols(alloc, tree, items) {
-        Ok(found) => Ok(found),
-        Err(e) => Err(e),
-    }
+    symbols(alloc, tree, items)
 }
 
 /// The symbols that are the items.
-fn symbols(alloc: Global, tree: &Tree, items: &[u32]) -> Result<Vec<Text>, SchemaNo>
+fn symbols(alloc: Global, tree: &Tree, items: &[u32]) -> Result<NameList, SchemaNo>
     requires { (js : Items) × StandForItems tree.now items.now js }
     ensures ok { (js : Items) → StandForItems tree.now items.now js
-        → IfOk result (λ v. symbols_read [] js ≡ Ok v.items) }
+        → IfOk result (λ v. symbols_read [] js ≡ Ok v) }
     ensures err { (js : Items) → StandForItems tree.now items.now js
         → IfErr result (Why (symbols_read [] js)) }
 {
-    let mut seen = Vec::new(alloc);
+    let mut seen = NameList::new(alloc);
     for item in items {
-        match part_name(alloc, tree, Some(*item), &seen) {
-            Ok(name) => {
-                if let Err(_) = seen.push(name) {
-                    return Err(SchemaNo::Want);
-                }
-            }
-            Err(e) => return Err(e),
+        if let Err(e) = part_name(alloc, tree, Some(*item), &mut seen) {
+            return Err(e);
         }
     }
     Ok(seen)

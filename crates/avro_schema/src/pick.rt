@@ -1,5 +1,6 @@
 ghost use Rattle.std.specs.Prelude.{◌≡◌, true};
 ghost use Rattle.avro_schema.specs.Forms.{is_plain};
+ghost use Rattle.avro_schema.specs.NameList.{place_of};
 ghost use Rattle.avro_schema.specs.Picks.{kind_in, branches_in, symbols_in, fields_in, name_in};
 
 use crate::parts::{Field, Form};
@@ -43,6 +44,16 @@ pub(crate) fn symbols_in(form: &Form) -> &[Text]
     match form {
         Form::Enum(_, symbols) => symbols.as_slice(),
         _ => &[],
+    }
+}
+
+/// The first place of a name among the symbols of an enum.
+pub(crate) fn symbol_in(form: &Form, name: &str) -> Option<usize>
+    ensures { result ≡ place_of name.now (symbols_in form.now) }
+{
+    match form {
+        Form::Enum(_, symbols) => symbols.find(name),
+        _ => None,
     }
 }
 

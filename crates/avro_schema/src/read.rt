@@ -12,6 +12,7 @@ ghost use Rattle.avro_schema.specs.Forms.{type_at, types_of, EachBefore};
 ghost use Rattle.avro_schema.specs.Building.{Finished, Ends, FormReads};
 
 use crate::canonical::write_type;
+use crate::definitions::Definitions;
 use crate::error::SchemaNo;
 use crate::parts::{Form, Parts};
 use crate::reader::read_type;
@@ -56,7 +57,7 @@ fn read_value(alloc: Global, canonical: bool, tree: &Tree) -> Result<Schema, Sch
 {
     let mut parts = Parts {
         nodes: Vec::new(alloc),
-        definitions: Vec::new(alloc),
+        definitions: Definitions::new(alloc),
         root: 0,
     };
     match read_type(

@@ -1,4 +1,4 @@
-ghost use Rattle.std.specs.Prelude.{◌<◌, length, All, Option, IfOk, IfErr, OnOk, codes};
+ghost use Rattle.std.specs.Prelude.{◌≡◌, ◌<◌, length, All, Option, IfOk, IfErr, OnOk, codes};
 ghost use Rattle.json_span.specs.Json.{Json, Members, Items, object, array};
 ghost use Rattle.json_span.specs.Nodes.{Stands, StandForItems};
 ghost use Rattle.avro_schema.specs.Reading.{reader, last_member, object_read, object_by_word, record_read, part_type, fields_of, field_read, branch_read, union_read};
@@ -7,9 +7,11 @@ ghost use Rattle.avro_schema.specs.Forms.{types_of};
 
 use crate::error::SchemaNo;
 use crate::members::{is_object, items_at, member, text_at};
-use crate::named::{define, field_name, is_repeated, read_enum, read_fixed, type_by_name};
+use crate::name_list::NameList;
+use crate::named::{add_branch, define, part_name, read_enum, read_fixed, type_by_name};
 use crate::names::namespace_of;
 use crate::parts::{Field, Form, Parts};
+use gate_io::Text;
 use json_span::{Kind, Tree};
 use std::alloc::Global;
 
@@ -77,6 +79,7 @@ fn read_union(
         → Tells (union_read (reader canonical levels) (names_of parts.old) namespace.now js) parts.old parts.new result }
 {
     let mut branches = Vec::new(alloc);
+    let mut names = NameList::new(alloc);
     for item in tree.items(node) {
         if let Err(e) = read_branch(
             alloc,
@@ -86,6 +89,7 @@ fn read_union(
             namespace,
             *item,
             &mut branches,
+            &mut names,
             parts,
         ) {
             return Err(e);
@@ -104,23 +108,28 @@ fn read_branch(
     namespace: &str,
     node: u32,
     branches: &mut Vec<u32>,
+    names: &mut NameList,
     parts: &mut Parts,
 ) -> Result<(), SchemaNo>
     requires built { IsBuilt parts.old }
     requires node { (j : Json) × Stands tree.now node j }
     requires inside { All (λ k. k < length parts.old.nodes.items) branches.old.items }
+    requires names { names.old ≡ names_of_branches (types_of parts.old.nodes.items) branches.old.items }
     ensures ok { (j : Json) → Stands tree.now node j
         → OnOk result (MakesBranch (branch_read (reader canonical levels) (names_of parts.old) namespace.now
         (names_of_branches (types_of parts.old.nodes.items) branches.old.items) j)
         parts.old parts.new branches.old.items branches.new.items) }
+    ensures names { OnOk result (names.new ≡ names_of_branches (types_of parts.new.nodes.items) branches.new.items) }
     ensures err { (j : Json) → Stands tree.now node j
         → IfErr result (Why (branch_read (reader canonical levels) (names_of parts.old) namespace.now
         (names_of_branches (types_of parts.old.nodes.items) branches.old.items) j)) }
 {
     match read_type(alloc, tree, canonical, levels, true, namespace, node, parts) {
         Ok(branch) => {
-            if is_repeated(parts, branches, branch) {
-                return Err(SchemaNo::BadType);
+            match add_branch(alloc, parts, branch, names) {
+                Ok(true) => {}
+                Ok(false) => return Err(SchemaNo::BadType),
+                Err(e) => return Err(e),
             }
             match branches.push(branch) {
                 Ok(()) => Ok(()),
@@ -303,6 +312,7 @@ fn read_fields(
         return Err(SchemaNo::BadType);
     };
     let mut fields = Vec::new(alloc);
+    let mut names = NameList::new(alloc);
     for item in items {
         if let Err(e) = read_field(
             alloc,
@@ -312,6 +322,7 @@ fn read_fields(
             namespace,
             *item,
             &mut fields,
+            &mut names,
             parts,
         ) {
             return Err(e);
@@ -330,13 +341,16 @@ fn read_field(
     namespace: &str,
     node: u32,
     fields: &mut Vec<Field>,
+    names: &mut NameList,
     parts: &mut Parts,
 ) -> Result<(), SchemaNo>
     requires built { IsBuilt parts.old }
     requires node { (j : Json) × Stands tree.now node j }
+    requires names { names.old ≡ names_of_fields fields.old.items }
     ensures ok { (j : Json) → Stands tree.now node j
         → OnOk result (MakesField (field_read (reader canonical levels) (names_of parts.old) namespace.now
         (names_of_fields fields.old.items) j) parts.old parts.new fields.old.items fields.new.items) }
+    ensures names { OnOk result (names.new ≡ names_of_fields fields.new.items) }
     ensures err { (j : Json) → Stands tree.now node j
         → IfErr result (Why (field_read (reader canonical levels) (names_of parts.old) namespace.now
         (names_of_fields fields.old.items) j)) }
@@ -344,9 +358,12 @@ fn read_field(
     if !is_object(tree, node) {
         return Err(SchemaNo::BadType);
     }
-    let name = match field_name(alloc, tree, member(tree, node, "name"), fields) {
+    let name = match part_name(alloc, tree, member(tree, node, "name"), names) {
         Ok(name) => name,
         Err(e) => return Err(e),
+    };
+    let Ok(name) = Text::from_str(alloc, name) else {
+        return Err(SchemaNo::Want);
     };
     match read_part(
         alloc,

@@ -32,5 +32,5 @@ impl Model for Schema {
 
     ghost view = { λ s. record { nodes = s.parts.nodes.items; root = s.parts.root } };
 
-    ghost invariant = { λ s. IsSchema s.parts.nodes.items s.parts.definitions.items s.parts.root };
+    ghost invariant = { λ s. IsSchema s.parts.nodes.items s.parts.definitions s.parts.root };
 }

@@ -1,11 +1,10 @@
 ghost use Rattle.std.specs.Prelude.{◌≡◌, ◌≤◌, ◌<◌, ◌^◌, ◌≢◌, ℕ, pos, nat_abs, length, Option, option_map, All, IfOk, IfErr, OnErr};
 ghost use Rattle.std.specs.List.{AllZip};
-ghost use Rattle.model.specs.Log.{Log, Keeps, IsLog};
-ghost use Rattle.model.specs.Produced.{NoneAdded};
-ghost use Rattle.model.specs.Fixed.{HasPart, SameCommits};
+ghost use Rattle.model.specs.Fixed.{HasPart};
 ghost use Rattle.broker_link.specs.Metadata.{IsMetadata};
 ghost use Rattle.broker_link.specs.Produced.{AreParts, IsAsked, IsPlaced, MayBePlaced, IsBased, IsPlainly, first_code};
-ghost use Rattle.broker_link.specs.Causes.{Counts, HasCause, CodeComes};
+ghost use Rattle.broker_link.specs.Causes.{CodeComes};
+ghost use Rattle.broker_link.specs.Stands.{Stand, Calls, Reads};
 ghost use Rattle.broker_link.specs.Fetching.{AreAsks, AreGot, ArePartsOf, HaveAsked, IsCommittedAt, IsEdge, IsFetched, IsToldOffset, edge_view, named_at};
 
 use crate::fetch::{Edge, FetchFrom, Fetched, TopicPart};
@@ -27,7 +26,8 @@ pub struct Stored {
     pub value: Option<Items<u8>>,
 }
 
-/// A partition as the metadata has it.
+/// A partition as the metadata has it: its number, and the ids of the nodes that lead it, have it and
+/// are in sync.
 #[derive(Debug, Drop)]
 pub struct PartInfo {
     pub number: i32,
@@ -36,6 +36,7 @@ pub struct PartInfo {
     pub in_sync: Items<i32>,
 }
 
+/// A topic as the metadata has it, its partitions by number.
 #[derive(Debug, Drop)]
 pub struct TopicInfo {
     pub name: Text,
@@ -49,7 +50,8 @@ pub struct PartRecords {
     pub rows: Items<NewRecord>,
 }
 
-/// Where the records of a partition stand, or why they don't.
+/// Where the records of a partition stand, or why they don't. With `code` 0 they stand at `base`,
+/// `base` + 1 and so on. With another code none was stored, and `base` says nothing.
 #[derive(Clone, Copy, Debug)]
 pub struct PartPlaced {
     pub partition: i32,
@@ -57,10 +59,14 @@ pub struct PartPlaced {
     pub base: i64,
 }
 
+/// Why a call of a link has no answer.
 #[derive(Clone, Copy, Debug, PartialEq, Eq)]
 pub enum LinkNo {
+    /// The call got no answer that reads. Whether it had its effect isn't known.
     Fault,
+    /// The broker refused the call by this code, never 0 (Apache Kafka protocol guide, error codes).
     Refused(i16),
+    /// Out of memory, on this side.
     Want,
 }
 
@@ -74,32 +80,23 @@ impl From<AllocError> for LinkNo {
     }
 }
 
-/// A broker.
+/// A broker as the gateway sees it. A call that fails says so by a count that rose; where the log is told,
+/// each call says what it did to it.
 pub trait Link {
     ghost use Rattle.broker_link.specs.declared.link.LinkNo.TheVariants.{Want};
 
-    /// The link tells its log.
-    ghost tells: { Self → Type 0 };
-
-    /// The log and the commits beside it, where the link tells them.
-    ghost log: { Self → Log };
-
-    /// Nothing but want of memory and what the log lacks makes a call of it fail, and nobody else adds rows.
-    ghost plain: { Self → Type 0 };
-
-    ghost counts: { Self → Counts };
+    /// How the link stands.
+    ghost stand: { Self → Stand };
 
     /// The topics of that name, or all.
     fn metadata(&mut self, alloc: Global, topic: Option<&str>) -> Result<Items<TopicInfo>, LinkNo>
-        ensures telling { tells self.old → tells self.new }
-        ensures keeps { tells self.old → Keeps (log self.old) (log self.new) × NoneAdded (log self.old) (log self.new) × SameCommits (log self.old) (log self.new) }
-        ensures is_log { tells self.old → IsLog (log self.old) → IsLog (log self.new) }
-        ensures known { tells self.old → IfOk result (λ infos. IsMetadata (option_map (λ t. t.now) topic.entry) (log self.new) infos) }
-        ensures plainly { plain self.old → plain self.new × IfErr result (λ e. e ≡ Want) }
-        ensures alone { plain self.old → (log self.new).others ≡ (log self.old).others }
-        ensures cause { HasCause (counts self.old) (counts self.new) result };
+        ensures goes { Reads (stand self.old) (stand self.new) result }
+        ensures known { (stand self.old).tells → IfOk result (λ infos. IsMetadata (option_map (λ t. t.now) topic.entry) (stand self.new).log infos) }
+        ensures plainly { (stand self.old).plain → IfErr result (λ e. e ≡ Want) };
 
-    /// Stores the records of these partitions, each partition's in order, all or none of them.
+    /// Stores the records of these partitions. Each partition takes all of its records, in order, or
+    /// none. Ok answers each in the order asked, by its base or a code; after an Err any of them may
+    /// have been stored. `now` is their timestamp, in milliseconds since 1970.
     fn produce(
         &mut self,
         alloc: Global,
@@ -108,21 +105,17 @@ pub trait Link {
         parts: &[PartRecords],
     ) -> Result<Items<PartPlaced>, LinkNo>
         requires { AreParts parts.now }
-        ensures telling { tells self.old → tells self.new }
-        ensures keeps { tells self.old → Keeps (log self.old) (log self.new) × SameCommits (log self.old) (log self.new) }
-        ensures is_log { tells self.old → IsLog (log self.old) → IsLog (log self.new) }
-        ensures placed { tells self.old → IfOk result (λ placed. IsPlaced (log self.old) (log self.new) topic.now parts.now placed) }
+        ensures goes { Calls (stand self.old) (stand self.new) result }
+        ensures placed { (stand self.old).tells → IfOk result (λ placed. IsPlaced (stand self.old).log (stand self.new).log topic.now parts.now placed) }
         ensures order { IfOk result (λ placed. AllZip IsAsked parts.now placed) }
         ensures based { IfOk result (λ placed. AllZip IsBased parts.now placed) }
-        ensures failed { tells self.old → OnErr result (MayBePlaced (log self.old) (log self.new) topic.now parts.now) }
-        ensures codes { IfOk result (λ placed. CodeComes (counts self.old) (counts self.new) (first_code placed)) }
-        ensures plainly { plain self.old → plain self.new × IfErr result (λ e. e ≡ Want) }
-        ensures alone { plain self.old → (log self.new).others ≡ (log self.old).others }
-        ensures lacked { plain self.old → tells self.old → IfOk result (λ placed. AllZip (IsPlainly (log self.old) topic.now) parts.now placed) }
-        ensures cause { HasCause (counts self.old) (counts self.new) result };
+        ensures failed { (stand self.old).tells → OnErr result (MayBePlaced (stand self.old).log (stand self.new).log topic.now parts.now) }
+        ensures codes { IfOk result (λ placed. CodeComes (stand self.old).counts (stand self.new).counts (first_code placed)) }
+        ensures plainly { (stand self.old).plain → IfErr result (λ e. e ≡ Want) }
+        ensures lacked { (stand self.old).plain → (stand self.old).tells → IfOk result (λ placed. AllZip (IsPlainly (stand self.old).log topic.now) parts.now placed) };
 
-    /// The first rows of these partitions, each from its offset on, in the order asked. All rows
-    /// together have at most so many key and value bytes, but the first row may have more.
+    /// First rows of these partitions, each from its offset on, in the order asked. `max_bytes` says how
+    /// many key and value bytes are wanted at most.
     fn fetch(
         &mut self,
         alloc: Global,
@@ -131,14 +124,10 @@ pub trait Link {
     ) -> Result<Items<Fetched>, LinkNo>
         requires asks { AreAsks asks.now }
         requires few { max_bytes < 2 ^ 31 }
-        ensures telling { tells self.old → tells self.new }
-        ensures keeps { tells self.old → Keeps (log self.old) (log self.new) × NoneAdded (log self.old) (log self.new) × SameCommits (log self.old) (log self.new) }
-        ensures is_log { tells self.old → IsLog (log self.old) → IsLog (log self.new) }
+        ensures goes { Reads (stand self.old) (stand self.new) result }
         ensures fetched { IfOk result (λ fetched. AllZip IsFetched asks.now fetched) }
-        ensures got { tells self.old → IfOk result (AreGot (log self.new) asks.now) }
-        ensures plainly { plain self.old → plain self.new × (tells self.old → HaveAsked (log self.old) asks.now → IfErr result (λ e. e ≡ Want)) }
-        ensures alone { plain self.old → (log self.new).others ≡ (log self.old).others }
-        ensures cause { HasCause (counts self.old) (counts self.new) result };
+        ensures got { (stand self.old).tells → IfOk result (AreGot (stand self.new).log asks.now) }
+        ensures plainly { (stand self.old).plain → (stand self.old).tells → HaveAsked (stand self.old).log asks.now → IfErr result (λ e. e ≡ Want) };
 
     /// The offset of a partition's first row, or the one behind its last.
     fn list_offset(
@@ -149,14 +138,10 @@ pub trait Link {
         edge: Edge,
     ) -> Result<i64, LinkNo>
         requires { partition ≡ pos (nat_abs partition) }
-        ensures telling { tells self.old → tells self.new }
-        ensures keeps { tells self.old → Keeps (log self.old) (log self.new) × NoneAdded (log self.old) (log self.new) × SameCommits (log self.old) (log self.new) }
-        ensures is_log { tells self.old → IsLog (log self.old) → IsLog (log self.new) }
+        ensures goes { Reads (stand self.old) (stand self.new) result }
         ensures low { IfOk result (λ offset. offset ≡ pos (nat_abs offset)) }
-        ensures told { tells self.old → IfOk result (IsEdge (log self.new) (named_at topic.now partition) (edge_view edge)) }
-        ensures plainly { plain self.old → plain self.new × (tells self.old → HasPart (log self.old) (named_at topic.now partition) → IfErr result (λ e. e ≡ Want)) }
-        ensures alone { plain self.old → (log self.new).others ≡ (log self.old).others }
-        ensures cause { HasCause (counts self.old) (counts self.new) result };
+        ensures told { (stand self.old).tells → IfOk result (IsEdge (stand self.new).log (named_at topic.now partition) (edge_view edge)) }
+        ensures plainly { (stand self.old).plain → (stand self.old).tells → HasPart (stand self.old).log (named_at topic.now partition) → IfErr result (λ e. e ≡ Want) };
 
     /// The offsets that a group has committed at these partitions, in the order asked; -1 is none.
     fn committed(
@@ -166,13 +151,9 @@ pub trait Link {
         parts: &[TopicPart],
     ) -> Result<Items<i64>, LinkNo>
         requires { ArePartsOf parts.now }
-        ensures telling { tells self.old → tells self.new }
-        ensures keeps { tells self.old → Keeps (log self.old) (log self.new) × NoneAdded (log self.old) (log self.new) × SameCommits (log self.old) (log self.new) }
-        ensures is_log { tells self.old → IsLog (log self.old) → IsLog (log self.new) }
+        ensures goes { Reads (stand self.old) (stand self.new) result }
         ensures count { IfOk result (λ offsets. length offsets ≡ length parts.now) }
         ensures low { IfOk result (All IsToldOffset) }
-        ensures told { tells self.old → IfOk result (AllZip (IsCommittedAt (log self.new) group.now) parts.now) }
-        ensures plainly { plain self.old → plain self.new × IfErr result (λ e. e ≡ Want) }
-        ensures alone { plain self.old → (log self.new).others ≡ (log self.old).others }
-        ensures cause { HasCause (counts self.old) (counts self.new) result };
+        ensures told { (stand self.old).tells → IfOk result (AllZip (IsCommittedAt (stand self.new).log group.now) parts.now) }
+        ensures plainly { (stand self.old).plain → IfErr result (λ e. e ≡ Want) };
 }

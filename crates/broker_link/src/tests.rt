@@ -1,4 +1,5 @@
 //! A link in memory, with a topic "t" of two partitions. The expected values are written by hand.
+//! Each test is a story: a constant table of calls with what each tells, which one loop walks.
 
 ghost use Rattle.std.specs.Prelude.{◌≤ℤ◌, ◌<◌, ◌^◌, ◌≡◌, pos, nat_abs, IfOk};
 
@@ -8,6 +9,7 @@ use crate::{
 };
 use gate_io::{Items, Text};
 use std::alloc::{AllocError, Global};
+use std::process::Abort;
 use std::test::Fail as Failed;
 
 fn link(alloc: Global) -> Result<MemLink, Failed> {
@@ -27,25 +29,36 @@ fn row(alloc: Global, key: &str, value: &str) -> Result<NewRecord, AllocError> {
 fn put(
     alloc: Global,
     link: &mut MemLink,
-    partition: i32,
+    partition: u16,
     key: &str,
     value: &str,
-) -> Result<Items<PartPlaced>, LinkNo>
-    requires { partition ≡ pos (nat_abs partition) }
-{
+) -> Result<Items<PartPlaced>, LinkNo> {
     let mut rows = Items::new(alloc);
     rows.push(row(alloc, key, value)?)?;
+    let partition = i32::from(partition);
     link.produce(alloc, 0, "t", &[PartRecords { partition, rows }])
+}
+
+/// Each record by its partition, key and value.
+fn put_all(alloc: Global, link: &mut MemLink, records: &[(u16, &str, &str)]) -> Result<(), Failed> {
+    for (partition, key, value) in records {
+        put(alloc, link, *partition, key, value)?;
+    }
+    Ok(())
 }
 
 /// Partition 0 has "first", "other", "third", and partition 1 has "x", which has
 /// a key of one byte.
+const RECORDS: [(u16, &str, &str); 4] = [
+    (0, "", "first"),
+    (0, "", "other"),
+    (0, "", "third"),
+    (1, "k", "x"),
+];
+
 fn filled(alloc: Global) -> Result<MemLink, Failed> {
     let mut link = link(alloc)?;
-    put(alloc, &mut link, 0, "", "first")?;
-    put(alloc, &mut link, 0, "", "other")?;
-    put(alloc, &mut link, 0, "", "third")?;
-    put(alloc, &mut link, 1, "k", "x")?;
+    put_all(alloc, &mut link, &RECORDS)?;
     Ok(link)
 }
 
@@ -111,98 +124,183 @@ fn told(alloc: Global, answer: Result<Items<Fetched>, LinkNo>) -> Result<String,
     Ok(text)
 }
 
-#[test]
-fn fetches_from_an_offset_on(rt: HostRuntime) -> Result<(), Failed> {
-    let alloc = rt.alloc();
-    let mut link = filled(alloc)?;
-    let cases: [(u32, u16, &str); 9] = [
-        (0, 100, "0=first 1=other 2=third end 3;"),
-        (1, 100, "1=other 2=third end 3;"),
-        (3, 100, "end 3;"),
-        (4, 100, "out;"),
-        (0, 0, "0=first end 3;"),
-        (0, 1, "0=first end 3;"),
-        (0, 10, "0=first 1=other end 3;"),
-        (0, 14, "0=first 1=other end 3;"),
-        (0, 15, "0=first 1=other 2=third end 3;"),
-    ];
-    for (offset, max_bytes, wanted) in cases {
-        let answer = fetch(alloc, &mut link, "t", 0, offset, max_bytes);
-        assert_eq!(rt;
-            told(alloc, answer)?.as_str(),
-            wanted,
-            "from {offset}, {max_bytes} bytes"
-        );
+/// "stored", or why not.
+fn told_put(
+    alloc: Global,
+    link: &mut MemLink,
+    partition: u16,
+    value: &str,
+) -> Result<String, Failed> {
+    match put(alloc, link, partition, "", value) {
+        Ok(_placed) => Ok(String::from_str(alloc, "stored")?),
+        Err(no) => Ok(format!(in alloc; "{no:?}")?),
     }
-    Ok(())
 }
 
-#[test]
-fn a_row_that_does_not_fit_ends_the_answer(rt: HostRuntime) -> Result<(), Failed> {
-    let alloc = rt.alloc();
-    let mut link = filled(alloc)?;
-    let cases: [(u16, &str); 5] = [
-        (1, "0=first end 3;end 1;"),
-        (12, "0=first 1=other end 3;end 1;"),
-        (15, "0=first 1=other 2=third end 3;end 1;"),
-        (16, "0=first 1=other 2=third end 3;end 1;"),
-        (17, "0=first 1=other 2=third end 3;0=x end 1;"),
-    ];
-    for (max_bytes, wanted) in cases {
-        let answer = fetch_both(alloc, &mut link, max_bytes);
-        assert_eq!(rt; told(alloc, answer)?.as_str(), wanted, "{max_bytes} bytes");
+/// The offset, or why there is none.
+fn told_edge(
+    alloc: Global,
+    link: &mut MemLink,
+    topic: &str,
+    partition: u16,
+    edge: Edge,
+) -> Result<String, Failed> {
+    match link.list_offset(alloc, topic, i32::from(partition), edge) {
+        Ok(offset) => Ok(format!(in alloc; "{offset}")?),
+        Err(no) => Ok(format!(in alloc; "{no:?}")?),
     }
-    Ok(())
 }
 
-#[test]
-fn tells_the_edges_of_a_partition(rt: HostRuntime) -> Result<(), Failed> {
-    let alloc = rt.alloc();
-    let mut link = filled(alloc)?;
-    assert_eq!(rt; link.list_offset(alloc, "t", 0, Edge::Start), Ok(0));
-    assert_eq!(rt; link.list_offset(alloc, "t", 0, Edge::End), Ok(3));
-    assert_eq!(rt; link.list_offset(alloc, "t", 1, Edge::End), Ok(1));
-    Ok(())
-}
-
-#[test]
-fn refuses_a_partition_that_it_lacks(rt: HostRuntime) -> Result<(), Failed> {
-    let alloc = rt.alloc();
-    let mut link = filled(alloc)?;
-    assert_eq!(rt;
-        told(alloc, fetch(alloc, &mut link, "u", 0, 0, 9))?.as_str(),
-        "Refused(3)"
-    );
-    assert_eq!(rt; link.tally.refusals, 1);
-    assert_eq!(rt; link.tally.last_code, 3);
-    assert_eq!(rt;
-        told(alloc, fetch(alloc, &mut link, "t", 2, 0, 9))?.as_str(),
-        "Refused(3)"
-    );
-    assert_eq!(rt;
-        link.list_offset(alloc, "u", 0, Edge::End),
-        Err(LinkNo::Refused(3))
-    );
-    assert_eq!(rt;
-        link.list_offset(alloc, "t", 2, Edge::End),
-        Err(LinkNo::Refused(3))
-    );
-    assert_eq!(rt; link.tally.refusals, 4);
-    assert_eq!(rt; link.tally.faults, 0);
-    Ok(())
-}
-
-#[test]
-fn no_group_has_committed(rt: HostRuntime) -> Result<(), Failed> {
-    let alloc = rt.alloc();
-    let mut link = filled(alloc)?;
+/// What a group has committed at partition 0, each offset behind a blank.
+fn told_commits(alloc: Global, link: &mut MemLink) -> Result<String, Failed> {
+    let topic = Text::from_str(alloc, "t")?;
     let parts = [TopicPart {
-        topic: Text::from_str(alloc, "t")?,
+        topic,
         partition: 0,
     }];
     let offsets = link.committed(alloc, "g", &parts)?;
-    assert_eq!(rt; offsets.as_slice(), [-1].as_slice());
+    let mut text = String::new(alloc);
+    for offset in offsets.as_slice() {
+        text.push_str(format!(in alloc; " {offset}")?.as_str())?;
+    }
+    Ok(text)
+}
+
+/// Each topic's name with the number of its partitions.
+fn told_topics(alloc: Global, link: &mut MemLink) -> Result<String, Failed> {
+    let infos = link.metadata(alloc, None)?;
+    let mut text = String::new(alloc);
+    for info in infos.as_slice() {
+        let (name, parts) = (info.name.as_str(), info.parts.len());
+        text.push_str(format!(in alloc; "{name} {parts};")?.as_str())?;
+    }
+    Ok(text)
+}
+
+/// The faults, the refusals and the last code of a refusal.
+fn told_counts(alloc: Global, link: &MemLink) -> Result<String, Failed> {
+    let (faults, refusals) = (link.tally.faults, link.tally.refusals);
+    let code = link.tally.last_code;
+    Ok(format!(in alloc; "{faults} {refusals} {code}")?)
+}
+
+/// A call of a story.
+enum Step {
+    /// Stores a value in a partition.
+    Put(u16, &'static str),
+    /// From a topic's partition and an offset on, so many bytes.
+    Fetch(&'static str, u16, u32, u16),
+    /// From the start of both partitions, so many bytes.
+    FetchBoth(u16),
+    Edge(&'static str, u16, Edge),
+    Commits,
+    Topics,
+    Counts,
+}
+
+fn told_step(alloc: Global, link: &mut MemLink, step: &Step) -> Result<String, Failed> {
+    match step {
+        Step::Put(partition, value) => told_put(alloc, link, *partition, value),
+        Step::Fetch(topic, partition, offset, bytes) => {
+            told(
+                alloc,
+                fetch(alloc, link, topic, *partition, *offset, *bytes),
+            )
+        }
+        Step::FetchBoth(bytes) => told(alloc, fetch_both(alloc, link, *bytes)),
+        Step::Edge(topic, partition, edge) => told_edge(alloc, link, topic, *partition, *edge),
+        Step::Commits => told_commits(alloc, link),
+        Step::Topics => told_topics(alloc, link),
+        Step::Counts => told_counts(alloc, link),
+    }
+}
+
+/// Each call tells what stands beside it.
+fn tells(
+    rt: &impl Abort,
+    alloc: Global,
+    link: &mut MemLink,
+    story: &[(Step, &str)],
+) -> Result<(), Failed> {
+    for (place, (step, wanted)) in story.iter().enumerate() {
+        let text = told_step(alloc, link, step)?;
+        assert_eq!(rt; text.as_str(), *wanted, "call {place}");
+    }
     Ok(())
+}
+
+const FROM_AN_OFFSET: [(Step, &str); 9] = [
+    (
+        Step::Fetch("t", 0, 0, 100),
+        "0=first 1=other 2=third end 3;",
+    ),
+    (Step::Fetch("t", 0, 1, 100), "1=other 2=third end 3;"),
+    (Step::Fetch("t", 0, 3, 100), "end 3;"),
+    (Step::Fetch("t", 0, 4, 100), "out;"),
+    (Step::Fetch("t", 0, 0, 0), "0=first end 3;"),
+    (Step::Fetch("t", 0, 0, 1), "0=first end 3;"),
+    (Step::Fetch("t", 0, 0, 10), "0=first 1=other end 3;"),
+    (Step::Fetch("t", 0, 0, 14), "0=first 1=other end 3;"),
+    (Step::Fetch("t", 0, 0, 15), "0=first 1=other 2=third end 3;"),
+];
+
+#[test]
+fn fetches_from_an_offset_on(rt: HostRuntime) -> Result<(), Failed> {
+    let mut link = filled(rt.alloc())?;
+    tells(&rt, rt.alloc(), &mut link, &FROM_AN_OFFSET)
+}
+
+const OF_BOTH: [(Step, &str); 5] = [
+    (Step::FetchBoth(1), "0=first end 3;end 1;"),
+    (Step::FetchBoth(12), "0=first 1=other end 3;end 1;"),
+    (Step::FetchBoth(15), "0=first 1=other 2=third end 3;end 1;"),
+    (Step::FetchBoth(16), "0=first 1=other 2=third end 3;end 1;"),
+    (
+        Step::FetchBoth(17),
+        "0=first 1=other 2=third end 3;0=x end 1;",
+    ),
+];
+
+#[test]
+fn a_row_that_does_not_fit_ends_the_answer(rt: HostRuntime) -> Result<(), Failed> {
+    let mut link = filled(rt.alloc())?;
+    tells(&rt, rt.alloc(), &mut link, &OF_BOTH)
+}
+
+const EDGES: [(Step, &str); 3] = [
+    (Step::Edge("t", 0, Edge::Start), "0"),
+    (Step::Edge("t", 0, Edge::End), "3"),
+    (Step::Edge("t", 1, Edge::End), "1"),
+];
+
+#[test]
+fn tells_the_edges_of_a_partition(rt: HostRuntime) -> Result<(), Failed> {
+    let mut link = filled(rt.alloc())?;
+    tells(&rt, rt.alloc(), &mut link, &EDGES)
+}
+
+// Code 3 is UNKNOWN_TOPIC_OR_PARTITION.
+const LACKING: [(Step, &str); 6] = [
+    (Step::Fetch("u", 0, 0, 9), "Refused(3)"),
+    (Step::Counts, "0 1 3"),
+    (Step::Fetch("t", 2, 0, 9), "Refused(3)"),
+    (Step::Edge("u", 0, Edge::End), "Refused(3)"),
+    (Step::Edge("t", 2, Edge::End), "Refused(3)"),
+    (Step::Counts, "0 4 3"),
+];
+
+#[test]
+fn refuses_a_partition_that_it_lacks(rt: HostRuntime) -> Result<(), Failed> {
+    let mut link = filled(rt.alloc())?;
+    tells(&rt, rt.alloc(), &mut link, &LACKING)
+}
+
+const COMMITTED: [(Step, &str); 1] = [(Step::Commits, " -1")];
+
+#[test]
+fn no_group_has_committed(rt: HostRuntime) -> Result<(), Failed> {
+    let mut link = filled(rt.alloc())?;
+    tells(&rt, rt.alloc(), &mut link, &COMMITTED)
 }
 
 /// From now on the call of that number fails so.
@@ -219,51 +317,47 @@ fn fail_at(
     Ok(())
 }
 
-fn end(alloc: Global, link: &mut MemLink) -> Result<i64, LinkNo> {
-    link.list_offset(alloc, "t", 0, Edge::End)
-}
+const BEFORE: [(Step, &str); 3] = [
+    (Step::Put(0, "lost"), "Fault"),
+    (Step::Counts, "1 0 0"),
+    (Step::Edge("t", 0, Edge::End), "0"),
+];
 
 #[test]
 fn a_call_fails_before_its_effect(rt: HostRuntime) -> Result<(), Failed> {
-    let alloc = rt.alloc();
-    let mut link = link(alloc)?;
-    fail_at(alloc, &mut link, 0, false, 0)?;
-    assert_eq!(rt;
-        put(alloc, &mut link, 0, "", "lost").err(),
-        Some(LinkNo::Fault)
-    );
-    assert_eq!(rt; link.tally.faults, 1);
-    assert_eq!(rt; end(alloc, &mut link), Ok(0));
-    Ok(())
+    let mut link = link(rt.alloc())?;
+    fail_at(rt.alloc(), &mut link, 0, false, 0)?;
+    tells(&rt, rt.alloc(), &mut link, &BEFORE)
 }
+
+const AFTER: [(Step, &str); 3] = [
+    (Step::Put(0, "kept"), "Fault"),
+    (Step::Counts, "1 0 0"),
+    (Step::Fetch("t", 0, 0, 9), "0=kept end 1;"),
+];
 
 #[test]
 fn a_call_fails_after_its_effect(rt: HostRuntime) -> Result<(), Failed> {
-    let alloc = rt.alloc();
-    let mut link = link(alloc)?;
-    fail_at(alloc, &mut link, 0, true, 0)?;
-    assert_eq!(rt;
-        put(alloc, &mut link, 0, "", "kept").err(),
-        Some(LinkNo::Fault)
-    );
-    assert_eq!(rt; link.tally.faults, 1);
-    let answer = fetch(alloc, &mut link, "t", 0, 0, 9);
-    assert_eq!(rt; told(alloc, answer)?.as_str(), "0=kept end 1;");
-    Ok(())
+    let mut link = link(rt.alloc())?;
+    fail_at(rt.alloc(), &mut link, 0, true, 0)?;
+    tells(&rt, rt.alloc(), &mut link, &AFTER)
 }
+
+const UNSCRIPTED: [(Step, &str); 1] = [(Step::Edge("t", 0, Edge::End), "0")];
+
+const NUMBERED: [(Step, &str); 4] = [
+    (Step::Edge("t", 0, Edge::End), "0"),
+    (Step::Edge("t", 0, Edge::End), "Refused(6)"),
+    (Step::Counts, "0 1 6"),
+    (Step::Edge("t", 0, Edge::End), "0"),
+];
 
 #[test]
 fn a_call_is_refused_by_its_number(rt: HostRuntime) -> Result<(), Failed> {
-    let alloc = rt.alloc();
-    let mut link = link(alloc)?;
-    assert_eq!(rt; end(alloc, &mut link), Ok(0));
-    fail_at(alloc, &mut link, 2, false, 6)?;
-    assert_eq!(rt; end(alloc, &mut link), Ok(0));
-    assert_eq!(rt; end(alloc, &mut link), Err(LinkNo::Refused(6)));
-    assert_eq!(rt; link.tally.refusals, 1);
-    assert_eq!(rt; link.tally.last_code, 6);
-    assert_eq!(rt; end(alloc, &mut link), Ok(0));
-    Ok(())
+    let mut link = link(rt.alloc())?;
+    tells(&rt, rt.alloc(), &mut link, &UNSCRIPTED)?;
+    fail_at(rt.alloc(), &mut link, 2, false, 6)?;
+    tells(&rt, rt.alloc(), &mut link, &NUMBERED)
 }
 
 fn foreign(alloc: Global, call: u64, partition: i32, value: &str) -> Result<Foreign, AllocError> {
@@ -275,39 +369,35 @@ fn foreign(alloc: Global, call: u64, partition: i32, value: &str) -> Result<Fore
     })
 }
 
-#[test]
-fn rows_of_others_come_before_their_call(rt: HostRuntime) -> Result<(), Failed> {
-    let alloc = rt.alloc();
-    let mut link = link(alloc)?;
+/// Each row of somebody else before its call, in its partition.
+fn others_at(alloc: Global, link: &mut MemLink, rows: &[(u64, i32, &str)]) -> Result<(), Failed> {
     let mut others = Items::new(alloc);
-    others.push(foreign(alloc, 1, 0, "theirs")?)?;
-    others.push(foreign(alloc, 1, 2, "lacking")?)?;
-    others.push(foreign(alloc, 1, -1, "lacking")?)?;
+    for (call, partition, value) in rows {
+        others.push(foreign(alloc, *call, *partition, value)?)?;
+    }
     link.script(Items::new(alloc), others);
-    assert_eq!(rt;
-        told(alloc, fetch(alloc, &mut link, "t", 0, 0, 9))?.as_str(),
-        "end 0;"
-    );
-    assert_eq!(rt;
-        told(alloc, fetch(alloc, &mut link, "t", 0, 0, 9))?.as_str(),
-        "0=theirs end 1;"
-    );
-    assert_eq!(rt;
-        told(alloc, fetch(alloc, &mut link, "t", 0, 0, 9))?.as_str(),
-        "0=theirs end 1;"
-    );
     Ok(())
 }
 
+const THEIRS: [(u64, i32, &str); 3] = [(1, 0, "theirs"), (1, 2, "lacking"), (1, -1, "lacking")];
+
+const WITH_THEIRS: [(Step, &str); 3] = [
+    (Step::Fetch("t", 0, 0, 9), "end 0;"),
+    (Step::Fetch("t", 0, 0, 9), "0=theirs end 1;"),
+    (Step::Fetch("t", 0, 0, 9), "0=theirs end 1;"),
+];
+
+#[test]
+fn rows_of_others_come_before_their_call(rt: HostRuntime) -> Result<(), Failed> {
+    let mut link = link(rt.alloc())?;
+    others_at(rt.alloc(), &mut link, &THEIRS)?;
+    tells(&rt, rt.alloc(), &mut link, &WITH_THEIRS)
+}
+
+const NAMED: [(Step, &str); 1] = [(Step::Topics, "t 2;")];
+
 #[test]
 fn metadata_has_the_topic(rt: HostRuntime) -> Result<(), Failed> {
-    let alloc = rt.alloc();
-    let mut link = link(alloc)?;
-    let infos = link.metadata(alloc, None)?;
-    for info in infos.as_slice() {
-        assert_eq!(rt; info.name.as_str(), "t");
-        assert_eq!(rt; info.parts.len(), 2);
-    }
-    assert_eq!(rt; infos.len(), 1);
-    Ok(())
+    let mut link = link(rt.alloc())?;
+    tells(&rt, rt.alloc(), &mut link, &NAMED)
 }

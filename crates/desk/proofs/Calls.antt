@@ -24,29 +24,13 @@ use Rattle.std.proofs.lemmas.Slice.Eq.{bytes_eq-Decides}
 use Rattle.broker_link.specs.Causes.{Counts}
 use Rattle.instance.specs.Views.{Live}
 use Rattle.instance.specs.Acting.{ActsSo, AreThere, forms}
-use Rattle.desk.specs.Shelf.{is_delete_call, is_empty_reply, consumer_in, key_of, StandsAt, AreApart}
-use Rattle.desk.specs.Calling.{ActsAt, CallsSo, OthersStay}
-use Rattle.desk.proofs.Shelving.{IsFirst, first_of, flipped, found, found_set, key_set, others_set, found_removed, others_removed}
-
--- the instance at the place has the call's key
-pub key_at : (xs : List Live) (call : Call) (place : ℕ) (d : Live) → StandsAt xs (key_of call) place → (get_or xs place d).key ≡ key_of call
-key_at xs call place d at = (let first = first_of xs (key_of call) place d at in same_from_is_key (get_or xs place d).key (key_of call) first.is)
-
-pub within_at : (xs : List Live) (call : Call) (place : ℕ) (d : Live) → StandsAt xs (key_of call) place → place < length xs
-within_at xs call place d at = (let first = first_of xs (key_of call) place d at in first.within)
-
-pub whose_at : (xs : List Live) (call : Call) (place : ℕ) (d : Live) → StandsAt xs (key_of call) place → (key : Key) (act : Act) → call ≡ Of key act → (same : Act) × (call ≡ Of (get_or xs place d).key same)
-whose_at xs call place d at key act is = (act, is ∙ ap (λ (k : Key). Of k act) (sym (key_at xs call place d at ∙ ap key_of is)))
-
-same_bytes : (x : List ℕ) → bytes_eq x x ≡ true
-same_bytes x = (bytes_eq-Decides x x).1 refl
-
-pub itself : (key : Key) → is_key key key ≡ true
-itself key = rw (same_bytes key.group, same_bytes key.instance) refl
-
--- whichever the default, the element is the same
-pub same_at : (xs : List Live) (place : ℕ) (d e : Live) → place < length xs → get_or xs place d ≡ get_or xs place e
-same_at xs place d e lt = get_or_default xs place d e lt
+use Rattle.rest_calls.specs.Views.{key_in}
+use Rattle.desk.specs.Keys.{consumer_key, group_in, name_in_call}
+use Rattle.desk.specs.Consumers.{Groups, live_under, consumer_under, AreKeyed, Puts}
+use Rattle.desk.specs.Doing.{Does}
+use Rattle.desk.specs.Shelf.{is_delete_call, is_empty_reply}
+use Rattle.desk.specs.Calling.{CallsSo}
+use Rattle.desk.proofs.ConsumersLemmas.{found_put, others_put}
 
 -- ---- who is live behind a call
 
@@ -124,65 +108,44 @@ calls_from advertise key now round act tells plain before after c a events said 
   good = λ is_plain told log were. x.good is_plain told log (subst (λ (o : Option Consumer). IfSome o (AreThere a)) was were);
 }
 
--- the place, in the list with another of the same key there
-first_set : (xs : List Live) (key : Key) (p : ℕ) (d y : Live) → ((e : Live) → y.key ≡ (get_or xs p e).key) → IsFirst xs key p d → IsFirst (slice_set xs p y) key p d
-first_set xs key p d y same first =
-    let lt = first.within in
-    record {
-      within = omega (arith, lt, length-set xs p y);
-      is = subst (λ (k : Key). is_key k key ≡ true) (sym (key_set xs p y lt same p d)) first.is;
-      none_before = λ k less. subst (λ (z : Key). is_key z key ≡ false) (sym (key_set xs p y lt same k d)) (first.none_before k less);
-    }
+-- ---- the consumer under the call's key
 
-pub kept_calls : (xs ys : List Live) (place : ℕ) (call : Call) (key : Key) (act : Act) (advertise : List ℕ) (now round : ℕ) (tells plain : Type 0) (before after : Counts) (a : Log) (events : List (Key ⊎ Event)) (said : Option CodeReply) (b : Log)
-    → StandsAt xs (key_of call) place → call ≡ Of key act → ActsAt xs place ys call now round tells plain before after a events (option_map response_in said) b → (is_delete_call call && is_empty_reply said) ≡ false
-    → CallsSo advertise key now round act tells plain before after (consumer_in xs key) a events (option_map response_in said) b (consumer_in ys key)
-kept_calls xs ys place call key act advertise now round tells plain before after a events said b at is one other =
-    let d : Live = one.live in
-    let key_is : key_of call ≡ key = ap key_of is in
-    let first : IsFirst xs key place d = first_of xs key place d (subst (λ (k : Key). StandsAt xs k place) key_is at) in
-    let same : one.live.key ≡ key = one.key d ∙ (key_at xs call place d at ∙ key_is) in
-    let acts = one.acts advertise act (is ∙ ap (λ (k : Key). Of k act) (sym same)) d in
-    let moved = subst (λ (k : Key). ActsSo advertise k now round act tells plain before after (get_or xs place d).consumer a events (option_map response_in said) b one.live.consumer) same acts in
-    calls_from advertise key now round act tells plain before after (get_or xs place d).consumer a events said b one.live.consumer (consumer_in xs key) (consumer_in ys key) moved (one.unsubscribed d) (found xs key place d first)
-    (ap (λ (l : List Live). consumer_in l key) one.set ∙ (found_set xs key place d one.live first (subst (λ (k : Key). is_key k key ≡ true) (sym same) (itself key))
-    ∙ sym (stays_after advertise forms key act moved.reply said one.live.consumer moved.says (subst (λ (k : Call). (is_delete_call k && is_empty_reply said) ≡ false) is other))))
+-- any other call leaves it there
+pub kept_calls : (old new : Groups) (call : Call) (key : Key) (act : Act) (advertise : List ℕ) (now round : ℕ) (tells plain : Type 0) (before after : Counts) (a : Log) (events : List (Key ⊎ Event)) (said : Option CodeReply) (b : Log)
+    → AreKeyed old → call ≡ Of key act → Does (live_under old (consumer_key call)) (λ live. Puts old (consumer_key call) live new) call now round tells plain before after a events (option_map response_in said) b → (is_delete_call call && is_empty_reply said) ≡ false
+    → CallsSo advertise key now round act tells plain before after (consumer_under old key) a events (option_map response_in said) b (consumer_under new key)
+kept_calls old new call key act advertise now round tells plain before after a events said b keyed is one other =
+    let key_is : consumer_key call ≡ key = ap consumer_key is in
+    let stood_is : one.stood.key ≡ key = keyed (consumer_key call) one.stood one.was ∙ key_is in
+    let acts = one.acts advertise act (is ∙ ap (λ (k : Key). Of k act) (sym stood_is)) in
+    let moved = subst (λ (k : Key). ActsSo advertise k now round act tells plain before after one.stood.consumer a events (option_map response_in said) b one.live.consumer) stood_is acts in
+    let was : consumer_under old key ≡ Some one.stood.consumer = ap (λ (k : Key). consumer_under old k) (sym key_is) ∙ ap (λ (o : Option Live). option_map (λ (l : Live). l.consumer) o) one.was in
+    let left : consumer_under new key ≡ Some one.live.consumer = ap (λ (k : Key). consumer_under new k) (sym key_is) ∙ ap (λ (o : Option Live). option_map (λ (l : Live). l.consumer) o) (found_put old new (consumer_key call) (Some one.live) one.puts) in
+    calls_from advertise key now round act tells plain before after one.stood.consumer a events said b one.live.consumer (consumer_under old key) (consumer_under new key) moved one.unsubscribed was
+    (left ∙ sym (stays_after advertise forms key act moved.reply said one.live.consumer moved.says (subst (λ (k : Call). (is_delete_call k && is_empty_reply said) ≡ false) is other)))
 
-pub taken_calls : (xs ys zs : List Live) (place : ℕ) (call : Call) (key : Key) (act : Act) (advertise : List ℕ) (now round : ℕ) (tells plain : Type 0) (before after : Counts) (a : Log) (events : List (Key ⊎ Event)) (said : Option CodeReply) (b : Log)
-    → AreApart ys → StandsAt xs (key_of call) place → call ≡ Of key act → ActsAt xs place ys call now round tells plain before after a events (option_map response_in said) b → (is_delete_call call && is_empty_reply said) ≡ true → zs ≡ remove ys place
-    → CallsSo advertise key now round act tells plain before after (consumer_in xs key) a events (option_map response_in said) b (consumer_in zs key)
-taken_calls xs ys zs place call key act advertise now round tells plain before after a events said b apart at is one takes less =
-    let d : Live = one.live in
-    let key_is : key_of call ≡ key = ap key_of is in
-    let first : IsFirst xs key place d = first_of xs key place d (subst (λ (k : Key). StandsAt xs k place) key_is at) in
-    let same : one.live.key ≡ key = one.key d ∙ (key_at xs call place d at ∙ key_is) in
-    let acts = one.acts advertise act (is ∙ ap (λ (k : Key). Of k act) (sym same)) d in
-    let moved = subst (λ (k : Key). ActsSo advertise k now round act tells plain before after (get_or xs place d).consumer a events (option_map response_in said) b one.live.consumer) same acts in
-    let first2 : IsFirst ys key place d = subst (λ (l : List Live). IsFirst l key place d) (sym one.set) (first_set xs key place d one.live one.key first) in
-    calls_from advertise key now round act tells plain before after (get_or xs place d).consumer a events said b one.live.consumer (consumer_in xs key) (consumer_in zs key) moved (one.unsubscribed d) (found xs key place d first)
-    (ap (λ (l : List Live). consumer_in l key) less ∙ (found_removed ys key place d first2 apart
-    ∙ sym (gone_after advertise forms key act moved.reply said one.live.consumer moved.says (subst (λ (k : Call). (is_delete_call k && is_empty_reply said) ≡ true) is takes))))
+-- a Delete that was done is followed by a removal
+pub taken_calls : (old mid new : Groups) (call : Call) (key : Key) (act : Act) (advertise : List ℕ) (now round : ℕ) (tells plain : Type 0) (before after : Counts) (a : Log) (events : List (Key ⊎ Event)) (said : Option CodeReply) (b : Log)
+    → AreKeyed old → call ≡ Of key act → Does (live_under old (consumer_key call)) (λ live. Puts old (consumer_key call) live mid) call now round tells plain before after a events (option_map response_in said) b → (is_delete_call call && is_empty_reply said) ≡ true
+    → Puts mid (consumer_key call) None new
+    → CallsSo advertise key now round act tells plain before after (consumer_under old key) a events (option_map response_in said) b (consumer_under new key)
+taken_calls old mid new call key act advertise now round tells plain before after a events said b keyed is one takes removed =
+    let key_is : consumer_key call ≡ key = ap consumer_key is in
+    let stood_is : one.stood.key ≡ key = keyed (consumer_key call) one.stood one.was ∙ key_is in
+    let acts = one.acts advertise act (is ∙ ap (λ (k : Key). Of k act) (sym stood_is)) in
+    let moved = subst (λ (k : Key). ActsSo advertise k now round act tells plain before after one.stood.consumer a events (option_map response_in said) b one.live.consumer) stood_is acts in
+    let was : consumer_under old key ≡ Some one.stood.consumer = ap (λ (k : Key). consumer_under old k) (sym key_is) ∙ ap (λ (o : Option Live). option_map (λ (l : Live). l.consumer) o) one.was in
+    let left : consumer_under new key ≡ None = ap (λ (k : Key). consumer_under new k) (sym key_is) ∙ ap (λ (o : Option Live). option_map (λ (l : Live). l.consumer) o) (found_put mid new (consumer_key call) None removed) in
+    calls_from advertise key now round act tells plain before after one.stood.consumer a events said b one.live.consumer (consumer_under old key) (consumer_under new key) moved one.unsubscribed was
+    (left ∙ sym (gone_after advertise forms key act moved.reply said one.live.consumer moved.says (subst (λ (k : Call). (is_delete_call k && is_empty_reply said) ≡ true) is takes)))
 
 -- ---- the others
 
-pub kept_others : (xs ys : List Live) (place : ℕ) (call : Call) (key : Key) (act : Act) (now round : ℕ) (tells plain : Type 0) (before after : Counts) (a : Log) (events : List (Key ⊎ Event)) (said : Option Response) (b : Log)
-    → StandsAt xs (key_of call) place → call ≡ Of key act → ActsAt xs place ys call now round tells plain before after a events said b → OthersStay key xs ys
-kept_others xs ys place call key act now round tells plain before after a events said b at is one = λ other apart.
-    let d : Live = one.live in
-    let stood : (get_or xs place d).key ≡ key = key_at xs call place d at ∙ ap key_of is in
-    let differs : is_key key other ≡ false = flipped other key apart in
-    ap (λ (l : List Live). consumer_in l other) one.set
-    ∙ others_set xs other place d one.live (within_at xs call place d at) (subst (λ (k : Key). is_key k other ≡ false) (sym stood) differs) (subst (λ (k : Key). is_key k other ≡ false) (sym (one.key d ∙ stood)) differs)
+pub others_of : (old new : Groups) (call : Call) (key : Key) (act : Act) (live : Option Live) → call ≡ Of key act → Puts old (consumer_key call) live new
+    → (other : Key) → is_key other key ≡ false → consumer_under new other ≡ consumer_under old other
+others_of old new call key act live is puts = λ other apart.
+    ap (λ (o : Option Live). option_map (λ (l : Live). l.consumer) o) (others_put old new (consumer_key call) other live puts (subst (λ (k : Key). is_key other k ≡ false) (sym (ap consumer_key is)) apart))
 
-pub taken_others : (xs ys zs : List Live) (place : ℕ) (call : Call) (key : Key) (act : Act) (now round : ℕ) (tells plain : Type 0) (before after : Counts) (a : Log) (events : List (Key ⊎ Event)) (said : Option Response) (b : Log)
-    → StandsAt xs (key_of call) place → call ≡ Of key act → ActsAt xs place ys call now round tells plain before after a events said b → zs ≡ remove ys place → OthersStay key xs zs
-taken_others xs ys zs place call key act now round tells plain before after a events said b at is one less = λ other apart.
-    let d : Live = one.live in
-    let lt = within_at xs call place d at in
-    let differs : is_key key other ≡ false = flipped other key apart in
-    let stood : (get_or xs place d).key ≡ key = key_at xs call place d at ∙ ap key_of is in
-    let stands : (get_or ys place d).key ≡ key = ap (λ (l : List Live). (get_or l place d).key) one.set ∙ (key_set xs place one.live lt one.key place d ∙ stood) in
-    let lt2 : place < length ys = subst (λ (l : List Live). place < length l) (sym one.set) (omega (arith, lt, length-set xs place one.live)) in
-    ap (λ (l : List Live). consumer_in l other) less
-    ∙ (others_removed ys other place d lt2 (subst (λ (k : Key). is_key k other ≡ false) (sym stands) differs)
-    ∙ kept_others xs ys place call key act now round tells plain before after a events said b at is one other apart)
+-- the key, from the texts of its group and its name
+pub key_here : (call : Call) (group name : List ℕ) → group ≡ group_in call → name ≡ name_in_call call → key_in group name ≡ consumer_key call
+key_here call group name group_is name_is = λ i. key_in (group_is i) (name_is i)

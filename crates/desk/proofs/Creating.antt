@@ -1,6 +1,6 @@
 -- A call under whose key nobody is live: a Create makes one, and any other is refused.
 use Rattle.std.proofs.Common.{◌≡◌, ℕ, Bool, true, false, List, [], ◌∷◌, ◌++◌, refl, ap, sym, ◌∙◌, subst, arith, inl, inr, Option, Some, None}
-use Rattle.std.specs.Prelude.{ℤ, map, option_map, if◌then◌else◌}
+use Rattle.std.specs.Prelude.{ℤ, ◌⊎◌, map, option_map}
 use Rattle.model.specs.Legal.{is_fault, is_refusal}
 use Rattle.model.specs.Log.{Log}
 use Rattle.model.specs.World.{Key, is_key, Settings, Consumer, IsConsumer, fresh}
@@ -20,12 +20,14 @@ use Rattle.instance.specs.Views.{Live, event_of}
 use Rattle.instance.specs.Acting.{forms}
 use Rattle.instance.specs.Making.{SaysMade}
 use Rattle.instance.specs.Failing.{SaysOrWant}
-use Rattle.std.specs.List.{position}
-use Rattle.rest_calls.specs.Views.{key_in}
-use Rattle.desk.specs.Shelf.{consumer_in, group_in, name_in_call, key_of, is_create_call}
-use Rattle.desk.specs.Calling.{CallsSo, OthersStay}
-use Rattle.desk.proofs.Shelving.{missing, found_push, others_push, flipped}
-use Rattle.desk.proofs.Calls.{itself}
+use Rattle.broker_link.specs.Stands.{Stand}
+use Rattle.model.specs.Entry.{Event}
+use Rattle.model.specs.Texts.{Response}
+use Rattle.model.specs.World.{nobody}
+use Rattle.desk.specs.Consumers.{live_under}
+use Rattle.desk.specs.declared.consumers.Consumers.{Consumers}
+use Rattle.desk.specs.Shelf.{is_create_call, world_in}
+use Rattle.desk.specs.Calling.{CallsSo}
 
 pub is_fresh : (settings : Settings) (moment : ℕ) → IsConsumer (fresh settings moment)
 is_fresh settings moment = record { order = λ i j d less short. absurd (omega (arith, short)); low = λ k d short. absurd (omega (arith, short)); names = λ i j d less short. absurd (omega (arith, short)) }
@@ -84,13 +86,13 @@ missing_calls advertise key moment round act tells plain counts a left said is o
 })
 
 -- a new one was made
-pub made_calls : (advertise : List ℕ) (key : Key) (moment round : ℕ) (act : Act) (tells plain : Type 0) (counts : Counts) (a : Log) (xs : List Live) (live : Live) (said : CodeReply)
-    → consumer_in xs key ≡ None → is_create_call (Of key act) ≡ true → SaysMade advertise key said → (said ≡ reply.Want → ⊥) → live.key ≡ key
+pub made_calls : (advertise : List ℕ) (key : Key) (moment round : ℕ) (act : Act) (tells plain : Type 0) (counts : Counts) (a : Log) (live : Live) (left : Option Consumer) (said : CodeReply)
+    → left ≡ Some live.consumer → is_create_call (Of key act) ≡ true → SaysMade advertise key said → (said ≡ reply.Want → ⊥)
     → ((settings : Settings) → act ≡ Create settings → live.consumer ≡ fresh settings moment)
-    → CallsSo advertise key moment round act tells plain counts counts None a [] (Some (response_in said)) a (consumer_in (xs ++ live ∷ []) key)
-made_calls advertise key moment round act tells plain counts a xs live said none creates (inr wants) some same new = absurd (some wants)
-made_calls advertise key moment round (Create settings) tells plain counts a xs live said none creates (inl says) some same new =
-    let now : consumer_in (xs ++ live ∷ []) key ≡ Some (fresh settings moment) = found_push xs key live none (subst (λ (k : Key). is_key k key ≡ true) (sym same) (itself key)) ∙ ap Some (new settings refl) in
+    → CallsSo advertise key moment round act tells plain counts counts None a [] (Some (response_in said)) a left
+made_calls advertise key moment round act tells plain counts a live left said is_live creates (inr wants) some new = absurd (some wants)
+made_calls advertise key moment round (Create settings) tells plain counts a live left said is_live creates (inl says) some new =
+    let now : left ≡ Some (fresh settings moment) = is_live ∙ ap Some (new settings refl) in
     subst (λ (o : Option Consumer). CallsSo advertise key moment round (Create settings) tells plain counts counts None a [] (Some (response_in said)) a o) (sym now) (record {
       reply = Some Made;
       says = ap Some (says forms settings);
@@ -100,23 +102,7 @@ made_calls advertise key moment round (Create settings) tells plain counts a xs 
       there = λ told log were k d short. absurd (omega (arith, short));
       good = λ is_plain told log were. tt;
     })
-made_calls advertise key moment round act tells plain counts a xs live said none creates (inl says) some same new = absurd (cc creates)
-
-pub made_others : (xs : List Live) (live : Live) (key : Key) → live.key ≡ key → OthersStay key xs (xs ++ live ∷ [])
-made_others xs live key same = λ other apart. others_push xs other live (subst (λ (k : Key). is_key k other ≡ false) (sym same) (flipped other key apart))
-
--- what holds of both holds of either
-pub of_either : (P : List Live → Type 0) (b : Bool) (xs ys : List Live) → P ys → P xs → P (if b then ys else xs)
-of_either P true xs ys p q = p
-of_either P false xs ys p q = q
-
--- the place wasn't found, so nobody is live under the key
-pub nobody_at : (xs ys : List Live) (group name : List ℕ) (call : Call) (place : Option ℕ) → ys ≡ xs → group ≡ group_in call → name ≡ name_in_call call
-    → place ≡ position (λ (i : Live). is_key i.key (key_in group name)) ys → place ≡ None → consumer_in xs (key_of call) ≡ None
-nobody_at xs ys group name call place same group_is name_is found none =
-    let at : position (λ (i : Live). is_key i.key (key_in group name)) ys ≡ None = sym found ∙ none in
-    missing xs (key_of call) (subst (λ (l : List Live). position (λ (i : Live). is_key i.key (key_of call)) l ≡ None) same
-    (subst (λ (n : List ℕ). position (λ (i : Live). is_key i.key (key_in (group_in call) n)) ys ≡ None) name_is (subst (λ (g : List ℕ). position (λ (i : Live). is_key i.key (key_in g name)) ys ≡ None) group_is at)))
+made_calls advertise key moment round act tells plain counts a live left said is_live creates (inl says) some new = absurd (cc creates)
 
 -- the outcome has no event
 pub eventless_calls : (advertise : List ℕ) (key : Key) (now round : ℕ) (act : Act) (tells plain : Type 0) (before after : Counts) (c : Option Consumer) (a : Log) (events : List CodeEvent) (said : Option CodeReply) (r : CodeReply) (b : Log) (c2 : Option Consumer)
@@ -125,3 +111,18 @@ pub eventless_calls : (advertise : List ℕ) (key : Key) (now round : ℕ) (act 
 eventless_calls advertise key now round act tells plain before after c a events said r b c2 none is calls =
     subst (λ (es : List CodeEvent). CallsSo advertise key now round act tells plain before after c a (map event_of es) (option_map response_in said) b c2) (sym none)
     (subst (λ (o : Option CodeReply). CallsSo advertise key now round act tells plain before after c a [] (option_map response_in o) b c2) (sym is) calls)
+
+-- what was called where nobody is live, from before the look-up to after the call
+pub missing_from : (advertise seen : List ℕ) (key : Key) (now round : ℕ) (act : Act) (a m b : Stand) (c : Option Consumer) (events : List (Key ⊎ Event)) (said : Option Response) (left : Option Consumer)
+    → seen ≡ advertise → m ≡ a → b ≡ m → c ≡ None
+    → CallsSo seen key now round act m.tells m.plain m.counts m.counts None m.log events said m.log left
+    → CallsSo advertise key now round act a.tells a.plain a.counts b.counts c a.log events said b.log left
+missing_from advertise seen key now round act a m b c events said left same stands after none calls =
+    subst (λ (o : Option Consumer). CallsSo advertise key now round act a.tells a.plain a.counts b.counts o a.log events said b.log left) (sym none)
+    (subst (λ (s : Stand). CallsSo advertise key now round act a.tells a.plain a.counts s.counts None a.log events said s.log left) (sym (after ∙ stands))
+    (subst (λ (s : Stand). CallsSo advertise key now round act s.tells s.plain s.counts s.counts None s.log events said s.log left) stands
+    (subst (λ (t : List ℕ). CallsSo t key now round act m.tells m.plain m.counts m.counts None m.log events said m.log left) same calls)))
+
+-- the world of nobody
+pub world_of_nobody : (consumers : Consumers) (last : ℕ) → ((key : Key) → live_under consumers.groups key ≡ None) → last ≡ 0 → world_in consumers last ≡ nobody
+world_of_nobody consumers last none is = λ i. record { at = λ key. option_map (λ (l : Live). l.consumer) (none key i); last = is i }

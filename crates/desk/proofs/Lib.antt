@@ -1,4 +1,4 @@
-pub mod Shelving
+pub mod ConsumersLemmas
 pub mod Calls
 pub mod Creating
 pub mod Steps
@@ -6,4 +6,4 @@ pub mod Joining
 pub mod Producing
 pub mod Turning
 pub mod Looking
-pub mod Naming
+pub mod NamingLemmas

@@ -1,9 +1,10 @@
 -- A produce is one step of the model, and its reply says what the model answers.
-use Rattle.std.proofs.Common.{◌≡◌, ℕ, ◌^◌, ◌<◌, List, [], map, refl, ap, ◌∙◌, arith, inl, inr, Some, None, Result, Ok, Err}
+use Rattle.std.proofs.Common.{◌≡◌, ℕ, ◌^◌, ◌<◌, List, [], map, refl, ap, sym, ◌∙◌, arith, inl, inr, Option, Some, None, Result, Ok, Err}
 use Rattle.std.specs.Prelude.{max, option_map}
 use Rattle.model.specs.Log.{Log, IsLog, Keeps}
 use Rattle.model.specs.Texts.{response_of}
-use Rattle.model.specs.Entry.{Batch, Given, Placed, Entry, Reply}
+use Rattle.model.specs.Noted.{said_of}
+use Rattle.model.specs.Entry.{Batch, Call, Given, Placed, Entry, Reply}
 use Rattle.model.specs.Entry.Call.{Produce}
 use Rattle.model.specs.Entry.Reply.{Want as NoMemory}
 use Rattle.model.specs.Texts.Response.{Body}
@@ -19,13 +20,15 @@ use Rattle.broker_link.specs.Replies.{IsCounted, IsGood}
 use Rattle.producer.specs.Replies.{reply_of}
 use Rattle.producer.specs.declared.told.Told.{Told}
 use Rattle.producer.specs.declared.request.ProduceNo.{ProduceNo}
-use Rattle.instance.specs.Views.{Live, event_of}
+use Rattle.instance.specs.Views.{event_of}
 use Rattle.instance.specs.Acting.{forms}
 use Rattle.desk.specs.Shelf.{world_in, AreSound}
-use Rattle.desk.specs.Stepping.{StepsSo, noted_in}
+use Rattle.broker_link.specs.Stands.{Goes, Stand}
+use Rattle.desk.specs.Stepping.{StepsSo, never, noted}
 use Rattle.desk.specs.Offsets.{SaysAnswer, SaysProduced, offsets_text, plain_batch}
+use Rattle.desk.specs.declared.consumers.Consumers.{Consumers}
 use Rattle.desk.specs.declared.entry.Entry.{Entry as CodeEntry}
-use Rattle.desk.proofs.Steps.{none_expired, forms_from, caused_by, sound_in, there_later}
+use Rattle.desk.proofs.Steps.{none_expired, forms_from, caused_by, there_later}
 
 pub says_produced : (placed : List Placed) (text : List ℕ) → text ≡ offsets_text placed → SaysProduced placed (reply.Body media.Plain text)
 unfolding offsets_text
@@ -64,37 +67,37 @@ answer_of told a b topic records before after well (Err e) said (inl says) count
 answer_of told a b topic records before after well (Ok placed) said (inr is) counted ends good = wanted told a b topic (plain_batch records) before after well (reply_of (Ok placed)) said is counted ends
 answer_of told a b topic records before after well (Err e) said (inr is) counted ends good = wanted told a b topic (plain_batch records) before after well (reply_of (Err e)) said is counted ends
 
-pub produce_step : (advertise : List ℕ) (caller now : ℕ) (topic : List ℕ) (batch : Batch) (tells plain : Type 0) (before after : Counts) (xs : List Live) (last moment last2 : ℕ) (a b : Log) (e : CodeEntry) (said : CodeReply)
-    → (tells → IsLog a → Keeps a b × SameCommits a b) → (tells → IsLog a → IsLog b) → (well : Type 0) → (plain → tells → IsLog a → well) → Answer (tells × IsLog a) a b topic batch before after well said
-    → AreSound xs → e.caller ≡ caller → e.moment ≡ moment → e.events ≡ [] → e.reply ≡ Some said → moment ≡ max now last → moment < 2 ^ 64 → last2 ≡ moment
-    → StepsSo advertise caller now 0 (Produce topic batch) tells plain before after (world_in xs last) a (noted_in (Produce topic batch) e) b (world_in xs last2)
-produce_step advertise caller now topic batch tells plain before after xs last moment last2 a b e said keeps is_log well well_is one sound whose when none says latest low still = record {
+pub produce_step : (advertise : List ℕ) (caller now : ℕ) (topic : List ℕ) (batch : Batch) (a b : Stand) (xs : Consumers) (last moment last2 : ℕ) (e : CodeEntry) (said : CodeReply)
+    → Goes a b → (a.tells → SameCommits a.log b.log) → (well : Type 0) → (a.plain → a.tells → IsLog a.log → well) → Answer (a.tells × IsLog a.log) a.log b.log topic batch a.counts b.counts well said
+    → AreSound xs → e.caller ≡ caller → e.moment ≡ moment → e.events ≡ [] → (noted e).call ≡ Some (Produce topic batch) → e.round ≡ Some 0 → e.reply ≡ Some said → moment ≡ max now last → moment < 2 ^ 64 → last2 ≡ moment
+    → StepsSo never advertise a (world_in xs last) (noted e) b (world_in xs last2)
+produce_step advertise caller now topic batch a b xs last moment last2 e said goes commits well well_is one sound whose when none asked at says latest low still = record {
+  goes = goes;
   reply = Some one.answer;
-  says = ap (option_map response_in) says ∙ ap Some (one.says advertise);
+  says = answered ∙ ap (λ (c : Option Call). said_of advertise forms c (Some one.answer)) (sym asked);
   counted = one.counted;
   steps = λ told log.
       let entry : Entry = record { caller = caller; moment = moment; turn = record { round = 0; forms = forms }; expired = []; events = []; call = Some (Produce topic batch); reply = Some one.answer } in
       record {
         entry = entry;
-        same = λ i. record { caller = whose i; moment = when i; events = map event_of (none i); call = Some (Produce topic batch); reply = (ap (option_map response_in) says ∙ ap Some (one.says advertise)) i };
-        whose = refl;
-        call_is = refl;
+        same = λ i. record { caller = whose i; moment = when i; events = map event_of (none i); call = asked i; round = at i; table = (noted e).table; reply = answered i };
         reply_is = refl;
-        timed = latest;
-        round_is = refl;
         shows = λ table format bytes. refl;
         step = record {
-          keeps = (keeps told log).0;
-          log = is_log told log;
-          world = λ k c found. sound_in xs sound k c found;
+          keeps = goes.keeps told;
+          log = goes.is_log told log;
+          world = λ k c found. sound k c found;
           forms = forms_from forms (λ table format bytes. refl);
           later = omega (arith, latest);
           last = still;
-          does = inl (record { expired = none_expired moment (world_in xs last) low; does = (refl, one.ends (told, log), (keeps told log).1, λ key. refl) });
+          does = inl (record { expired = none_expired moment (world_in xs last) low; does = (refl, one.ends (told, log), commits told, λ key. refl) });
         };
         quiet = refl;
-        caused = λ lower. caused_by before after (world_in xs last) entry one.counted refl lower;
+        caused = λ lower. caused_by a.counts b.counts (world_in xs last) entry one.counted refl lower;
       };
-  there = λ told log there key c found. there_later a b (keeps told log).0 c (there key c found);
+  there = λ told log there key c found. there_later a.log b.log (goes.keeps told) c (there key c found);
   good = λ is_plain told log there. one.good (well_is is_plain told log);
 }
+  where
+    answered : option_map response_in e.reply ≡ Some (response_of advertise forms (Produce topic batch) one.answer)
+    answered = ap (option_map response_in) says ∙ ap Some (one.says advertise)

@@ -23,26 +23,18 @@ use Rattle.model.specs.Noted.{IsTable, events_of, said_of}
 use Rattle.broker_link.specs.Causes.{Counts}
 use Rattle.broker_link.specs.Replies.{IsCountedIf}
 use Rattle.rest_calls.specs.Responses.{response_in}
-use Rattle.instance.specs.Views.{Live, event_of, place_of}
+use Rattle.instance.specs.Views.{event_of, place_of}
 use Rattle.instance.specs.declared.event.Event.{Event as CodeEvent}
 use Rattle.instance.specs.declared.event.Event.TheVariants as code
 use Rattle.instance.specs.Acting.{AreThere, forms, shown, shows, totals}
 use Rattle.desk.specs.Shelf.{consumer_in, world_in, AreSound, AllThere}
 use Rattle.desk.specs.Calling.{CallsSo, OthersStay}
-use Rattle.desk.specs.Stepping.{noted_in, never, AreLow, StepsSo}
+use Rattle.desk.specs.declared.consumers.Consumers.{Consumers}
+use Rattle.broker_link.specs.Stands.{Goes, Stand}
+use Rattle.desk.specs.Stepping.{noted, never, AreLow, StepsSo}
 use Rattle.desk.specs.declared.entry.Entry.{Entry as CodeEntry}
 
 -- ---- the world
-
-pub sound_in : (xs : List Live) → AreSound xs → (key : Key) (c : Consumer) → consumer_in xs key ≡ Some c → IsConsumer c
-sound_in [] sound key c is = absurd (cc is)
-sound_in (x ∷ xs) sound key c is = go (is_key x.key key) refl (sound_in xs (λ k d lt. sound (suc k) d (omega (arith, lt))) key c)
-  where
-    go : (b : Bool) → is_key x.key key ≡ b → (consumer_in xs key ≡ Some c → IsConsumer c) → IsConsumer c
-    go true e rest =
-        let same : x.consumer ≡ c = (let f = sym (ap (λ (b : Bool). cond b (Some x.consumer) (consumer_in xs key)) e) ∙ is in cc f) in
-        subst IsConsumer same (sound 0 x (omega arith))
-    go false e rest = rest (sym (ap (λ (b : Bool). cond b (Some x.consumer) (consumer_in xs key)) e) ∙ is)
 
 not_idle : (moment : ℕ) (o : Option Consumer) → moment < 2 ^ 64 → IsIdle never moment o → ⊥
 not_idle moment None low idle = idle
@@ -128,9 +120,9 @@ caused_by c d w e counted quiet low = record {
   fault = fault_rises c d e.reply counted low;
   refusal = refusal_rises c d e.reply counted low;
   code = λ k is. inl (code_comes c d e.reply k counted is);
-  passed = λ records unrefused fed k x lt. absurd (omega (arith, lt));
+  told = λ commit fed some. absurd (some refl);
+  passed = λ records fed code is. absurd (cc is);
   short = λ lt. (let z : (entry_tally w e).short ≡ 0 = ap (λ (t : Tally). 0 + t.short) quiet in absurd (omega (arith, lt, z)));
-  placed = λ lt. (let z : (entry_tally w e).placed ≡ 0 = ap (λ (t : Tally). 0 + t.placed) quiet in absurd (omega (arith, lt, z)));
   looked = λ lt. (let z : (entry_tally w e).looks ≡ 0 = ap (λ (t : Tally). 0 + t.looks) quiet in absurd (omega (arith, lt, z)));
 }
 
@@ -160,7 +152,7 @@ if_some : (o : Option Consumer) (P : Consumer → Type 0) → ((c : Consumer) �
 if_some None P each = tt
 if_some (Some c) P each = each c refl
 
-all_there : (key : Key) (xs ys : List Live) (last moment : ℕ) (a b : Log) → Keeps a b → OthersStay key xs ys → (IfSome (consumer_in xs key) (AreThere a) → IfSome (consumer_in ys key) (AreThere b)) → AllThere a (world_in xs last) → AllThere b (world_in ys moment)
+all_there : (key : Key) (xs ys : Consumers) (last moment : ℕ) (a b : Log) → Keeps a b → OthersStay key xs ys → (IfSome (consumer_in xs key) (AreThere a) → IfSome (consumer_in ys key) (AreThere b)) → AllThere a (world_in xs last) → AllThere b (world_in ys moment)
 all_there key xs ys last moment a b keeps others own there = λ other c is. go other c is (is_key other key) refl
   where
     one : (o : Option Consumer) (P : Consumer → Type 0) (c : Consumer) → IfSome o P → o ≡ Some c → P c
@@ -175,38 +167,38 @@ all_there key xs ys last moment a b keeps others own there = λ other c is. go o
 
 -- ---- the step
 
-pub step_of : (advertise : List ℕ) (caller now round : ℕ) (call : Call) (key : Key) (act : Act) (tells plain : Type 0) (before after : Counts) (xs ys : List Live) (last moment last2 : ℕ) (a b : Log) (e : CodeEntry)
-    → call ≡ Of key act → CallsSo advertise key moment round act tells plain before after (consumer_in xs key) a (map event_of e.events) (option_map response_in e.reply) b (consumer_in ys key)
-    → OthersStay key xs ys → AreSound ys → (tells → Keeps a b × SameCommits a b) → (tells → IsLog a → IsLog b) → e.caller ≡ caller → e.moment ≡ moment → moment ≡ max now last → moment < 2 ^ 64 → last2 ≡ moment
-    → StepsSo advertise caller now round call tells plain before after (world_in xs last) a (noted_in call e) b (world_in ys last2)
-step_of advertise caller now round call key act tells plain before after xs ys last moment last2 a b e is calls others sound keeps is_log whose when latest low still = record {
+pub step_of : (advertise : List ℕ) (caller now round : ℕ) (call : Call) (key : Key) (act : Act) (a b : Stand) (xs ys : Consumers) (last moment last2 : ℕ) (e : CodeEntry)
+    → call ≡ Of key act → CallsSo advertise key moment round act a.tells a.plain a.counts b.counts (consumer_in xs key) a.log (map event_of e.events) (option_map response_in e.reply) b.log (consumer_in ys key)
+    → OthersStay key xs ys → AreSound ys → Goes a b → e.caller ≡ caller → e.moment ≡ moment → (noted e).call ≡ Some call → e.round ≡ Some round → moment ≡ max now last → moment < 2 ^ 64 → last2 ≡ moment
+    → StepsSo never advertise a (world_in xs last) (noted e) b (world_in ys last2)
+step_of advertise caller now round call key act a b xs ys last moment last2 e is calls others sound goes whose when called at latest low still = record {
+  goes = goes;
   reply = calls.reply;
-  says = calls.says ∙ ap (λ (c : Call). said_of advertise forms (Some c) calls.reply) (sym is);
+  says = calls.says ∙ ap (λ (c : Option Call). said_of advertise forms c calls.reply) (sym asked);
   counted = calls.counted;
   steps = λ told log.
       let one = calls.called told log in
       let entry : Entry = record { caller = caller; moment = moment; turn = record { round = round; forms = one.turn_forms }; expired = []; events = one.own; call = Some (Of key act); reply = calls.reply } in
       record {
         entry = entry;
-        same = λ i. record { caller = whose i; moment = when i; events = one.same i; call = ap Some is i; reply = one.says i };
-        whose = refl;
-        call_is = ap Some (sym is);
+        same = λ i. record { caller = whose i; moment = when i; events = one.same i; call = asked i; round = at i; table = (noted e).table; reply = one.says i };
         reply_is = refl;
-        timed = latest;
-        round_is = refl;
         shows = one.shows;
         step = record {
-          keeps = (keeps told).0;
-          log = is_log told log;
-          world = λ k c found. sound_in ys sound k c found;
+          keeps = goes.keeps told;
+          log = goes.is_log told log;
+          world = λ k c found. sound k c found;
           forms = forms_from one.turn_forms one.shows;
           later = omega (arith, latest);
           last = still;
           does = inl (record { expired = none_expired moment (world_in xs last) low; does = (one.acts, one.added, others) });
         };
         quiet = quiet_call (consumer_in xs) key act one.own (quiet_of (consumer_in xs key) one.own calls.unsubscribed (are_quiet one.own e.events one.same));
-        caused = λ lower. caused_by before after (world_in xs last) entry calls.counted (quiet_call (consumer_in xs) key act one.own (quiet_of (consumer_in xs key) one.own calls.unsubscribed (are_quiet one.own e.events one.same))) lower;
+        caused = λ lower. caused_by a.counts b.counts (world_in xs last) entry calls.counted (quiet_call (consumer_in xs) key act one.own (quiet_of (consumer_in xs key) one.own calls.unsubscribed (are_quiet one.own e.events one.same))) lower;
       };
-  there = λ told log. all_there key xs ys last last2 a b (keeps told).0 others (calls.there told log);
-  good = λ is_plain told log there. calls.good is_plain told log (if_some (consumer_in xs key) (AreThere a) (λ c found. there key c found));
+  there = λ told log. all_there key xs ys last last2 a.log b.log (goes.keeps told) others (calls.there told log);
+  good = λ is_plain told log there. calls.good is_plain told log (if_some (consumer_in xs key) (AreThere a.log) (λ c found. there key c found));
 }
+  where
+    asked : (noted e).call ≡ Some (Of key act)
+    asked = called ∙ ap Some is

@@ -3,7 +3,7 @@ use Rattle.std.proofs.Common.{◌≡◌, ℕ, ◌+◌, ◌<◌, ◌≤◌, Bool,
 use Rattle.std.specs.Prelude.{map, max, option_map, is_none, ◌⊎◌, All}
 use Rattle.std.proofs.lemmas.List.{append_assoc}
 use Rattle.std.proofs.lemmas.List.Elements.{All-nil, All-push}
-use Rattle.gate_io.specs.Clocks.{after_read, after_pause}
+use Rattle.gate_io.specs.Clocks.{Hand, after_read, after_pause}
 use Rattle.model.specs.Log.{Log, IsLog}
 use Rattle.model.specs.Forms.{Forms}
 use Rattle.model.specs.World.{Key, Consumer, World}
@@ -20,7 +20,7 @@ use Rattle.model.specs.Legal.{Tally, no_tally, plus, entry_tally, call_tally, on
 use Rattle.model.specs.Causes.{IsCaused}
 use Rattle.instance.specs.Acting.{shown, totals}
 use Rattle.model.specs.Served.{EndsIn}
-use Rattle.model.specs.Noted.{IsTable, Noted, said_of}
+use Rattle.model.specs.Noted.{IsTable, Noted, round_of, said_of}
 use Rattle.broker_link.specs.Causes.{Counts}
 use Rattle.broker_link.specs.Replies.{CountsKept, IsCountedIf, IsGoodIf}
 use Rattle.rest_calls.specs.Views.{asked_of}
@@ -28,8 +28,9 @@ use Rattle.rest_calls.specs.Responses.{response_in}
 use Rattle.rest_calls.specs.declared.call.Call.{Call as CodeCall}
 use Rattle.rest_calls.specs.declared.call.Call.TheVariants as call
 use Rattle.rest_codes.specs.declared.response.Reply.{Reply as CodeReply}
-use Rattle.desk.specs.Stepping.{noted_in, never, StepsSo}
-use Rattle.desk.specs.Runs.{State, Pays, IsTurn}
+use Rattle.desk.specs.Stepping.{noted, never, StepsSo}
+use Rattle.broker_link.specs.Stands.{Stand}
+use Rattle.desk.specs.Runs.{stood, Pays, IsTurn}
 use Rattle.desk.specs.declared.entry.Entry.{Entry as CodeEntry}
 
 -- ---- an entry without reply is a look
@@ -129,38 +130,43 @@ same_none advertise forms call (Some x) (Some r) is = refl
 alone_holds : (P : Entry → Type 0) (e : Entry) → P e → All P (e ∷ [])
 alone_holds P e is = All-push P [] e (All-nil P) is
 
-pub turned_of : (asked : Call) (advertise : List ℕ) (now round : ℕ) (tells plain ticks : Type 0) (s t : State) (e : CodeEntry) (said : Option CodeReply)
-    → StepsSo advertise 0 now round asked tells plain s.counts t.counts s.world s.log (noted_in asked e) t.log t.world → (plain → t.log.others ≡ s.log.others)
-    → (ticks → now ≡ (after_read s.hand).now) → (ticks → t.hand ≡ cond (is_none e.reply) (after_pause 10 (after_read s.hand)) (after_read s.hand)) → said ≡ e.reply
-    → ((x : Entry) → x.call ≡ Some asked → x.reply ≡ None → Step never s.world s.log x t.log t.world → EndsIn x.events x.turn.round)
-    → tells → IsLog s.log → IsTurn advertise plain ticks asked round s (option_map response_in said) t
-turned_of asked advertise now round tells plain ticks s t e said steps alone reads rests says ends told log =
+same_round : (round : ℕ) (call : Option Call) (asked : Call) (n : ℕ) → call ≡ Some asked → Some n ≡ round_of round call → round ≡ n
+same_round round call asked n called is = let same : Some n ≡ Some round = is ∙ ap (round_of round) called in sym (cc same)
+
+pub turned_of : (asked : Call) (caller : ℕ) (advertise : List ℕ) (now round : ℕ) (a b : Stand) (ticks : Type 0) (w w2 : World) (hand hand2 : Hand) (e : CodeEntry) (said : Option CodeReply)
+    → StepsSo never advertise a w (noted e) b w2 → e.caller ≡ caller → e.moment ≡ max now w.last → (noted e).call ≡ Some asked → e.round ≡ Some round
+    → (ticks → now ≡ (after_read hand).now) → (ticks → hand2 ≡ cond (is_none e.reply) (after_pause 10 (after_read hand)) (after_read hand)) → said ≡ e.reply
+    → ((x : Entry) → x.call ≡ Some asked → x.reply ≡ None → Step never w a.log x b.log w2 → EndsIn x.events x.turn.round)
+    → a.tells → IsLog a.log → IsTurn never caller advertise a.plain ticks asked round (stood w a hand) (option_map response_in said) (stood w2 b hand2)
+turned_of asked caller advertise now round a b ticks w w2 hand hand2 e said steps whose when called at reads rests says ends told log =
     let one = steps.steps told log in
     let entry = one.entry in
+    let call_is : entry.call ≡ Some asked = sym (ap (λ (n : Noted). n.call) one.same) ∙ called in
+    let round_is : entry.turn.round ≡ round = same_round entry.turn.round entry.call asked round call_is (sym at ∙ ap (λ (n : Noted). n.round) one.same) in
     let reply_is : option_map response_in e.reply ≡ said_of advertise (let x = entry.turn in x.forms) entry.call entry.reply = ap (λ (n : Noted). n.reply) one.same in
     record {
       entry = entry;
       runs = record {
-        owed = plus (entry_tally s.world entry) no_tally;
-        run = (t.log, t.world, one.step, (no_tally, refl, (refl, refl, refl)));
-        kept = kept_of s.counts t.counts steps.reply steps.counted;
-        paid = λ low. pays_one s.counts t.counts s.world entry one.quiet (one.caused low);
+        owed = plus (entry_tally w entry) no_tally;
+        run = (b.log, w2, one.step, (no_tally, refl, (refl, refl, refl)));
+        kept = kept_of a.counts b.counts steps.reply steps.counted;
+        paid = λ low. pays_one a.counts b.counts w entry one.quiet (one.caused low);
         clocked = λ ticking. (
-          one.timed ∙ ap (λ (n : ℕ). max n s.world.last) (reads ticking),
-          rests ticking ∙ ap (λ (w : Bool). cond w (after_pause 10 (after_read s.hand)) (after_read s.hand))
-              (same_none advertise (let x = entry.turn in x.forms) asked e.reply entry.reply (reply_is ∙ ap (λ (c : Option Call). said_of advertise (let x = entry.turn in x.forms) c entry.reply) one.call_is)),
+          sym (ap (λ (n : Noted). n.moment) one.same) ∙ (when ∙ ap (λ (n : ℕ). max n w.last) (reads ticking)),
+          rests ticking ∙ ap (λ (x : Bool). cond x (after_pause 10 (after_read hand)) (after_read hand))
+              (same_none advertise (let x = entry.turn in x.forms) asked e.reply entry.reply (reply_is ∙ ap (λ (c : Option Call). said_of advertise (let x = entry.turn in x.forms) c entry.reply) call_is)),
         );
         there = λ there. steps.there told log there;
         good = λ is_plain there. alone_holds (λ (x : Entry). IsGoodIf x.reply) entry (subst IsGoodIf (sym one.reply_is) (steps.good is_plain told log there));
-        alone = alone;
+        alone = steps.goes.alone;
         shows = alone_holds (λ (x : Entry). (table : List (List ℕ)) → IsTable shown table (let y = x.turn in y.forms)) entry one.shows;
-        callers = alone_holds (λ (x : Entry). x.caller ≡ 0) entry one.whose;
+        callers = alone_holds (λ (x : Entry). x.caller ≡ caller) entry (sym (ap (λ (n : Noted). n.caller) one.same) ∙ whose);
       };
-      call_is = one.call_is;
-      round_is = one.round_is;
-      says = ap (option_map response_in) says ∙ (reply_is ∙ ap (λ (c : Option Call). said_of advertise (let x = entry.turn in x.forms) c entry.reply) one.call_is);
-      looks = λ none. subst (λ (k : ℕ). EndsIn entry.events k) one.round_is (ends entry one.call_is none one.step);
-      counted = subst (IsCountedIf s.counts t.counts) (sym one.reply_is) steps.counted;
+      call_is = call_is;
+      round_is = round_is;
+      says = ap (option_map response_in) says ∙ (reply_is ∙ ap (λ (c : Option Call). said_of advertise (let x = entry.turn in x.forms) c entry.reply) call_is);
+      looks = λ none. subst (λ (k : ℕ). EndsIn entry.events k) round_is (ends entry call_is none one.step);
+      counted = subst (IsCountedIf a.counts b.counts) (sym one.reply_is) steps.counted;
     }
 
 -- a produce has its reply

@@ -1,8 +1,6 @@
 -- What a consumer's call does, whether one is live under its key or not.
-use Rattle.model.specs.World.{IsConsumer}
 use Rattle.model.specs.World.Mode.{ByTopics}
-use Rattle.model.specs.Entry.{Call}
-use Rattle.std.specs.Prelude.{ℕ, ◌≡◌, ◌≢◌, ◌⊎◌, false, slice_set, slice_index_or, List, [], IfSome, Option, Some}
+use Rattle.std.specs.Prelude.{ℕ, ◌≡◌, ◌≢◌, ◌⊎◌, false, List, [], IfSome, Option, Some}
 use Rattle.model.specs.Log.{Log, IsLog}
 use Rattle.model.specs.World.{Key, is_key, Consumer}
 use Rattle.model.specs.Forms.{Forms}
@@ -14,9 +12,9 @@ use Rattle.model.specs.Acts.{Acts}
 use Rattle.model.specs.Noted.{IsTable, events_of, said_of}
 use Rattle.broker_link.specs.Causes.{Counts}
 use Rattle.broker_link.specs.Replies.{IsCountedIf, IsGoodIf}
-use Rattle.instance.specs.Views.{Live}
 use Rattle.instance.specs.Acting.{ActsSo, AreThere, forms, shown}
 use Rattle.desk.specs.Shelf.{consumer_in}
+use Rattle.desk.specs.declared.consumers.Consumers.{Consumers}
 
 -- what the model says of the call: its events, and the consumer before and after it
 pub record Called (advertise : List ℕ) (key : Key) (now round : ℕ) (act : Act) (c : Option Consumer) (a : Log) (events : List (Key ⊎ Event)) (said : Option Response) (reply : Option Reply) (b : Log) (c2 : Option Consumer) : Type 0 where
@@ -39,15 +37,5 @@ pub record CallsSo (advertise : List ℕ) (key : Key) (now round : ℕ) (act : A
   pub good : plain → tells → IsLog a → IfSome c (AreThere a) → IsGoodIf reply
 
 -- the consumers but that of the key are as they were
-abbrev pub OthersStay : Key → List Live → List Live → Type 0
+abbrev pub OthersStay : Key → Consumers → Consumers → Type 0
 OthersStay key old new = (other : Key) → is_key other key ≡ false → consumer_in new other ≡ consumer_in old other
-
--- the instance at a place did its call
-pub record ActsAt (old : List Live) (place : ℕ) (new : List Live) (call : Call) (now round : ℕ) (tells plain : Type 0) (before after : Counts) (a : Log) (events : List (Key ⊎ Event)) (said : Option Response) (b : Log) : Type 0 where
-  pub live : Live
-  pub set : new ≡ slice_set old place live
-  pub key : (d : Live) → live.key ≡ (slice_index_or old place d).key
-  pub sound : IsConsumer live.consumer
-  pub unsubscribed : (d : Live) → (slice_index_or old place d).consumer.mode ≢ ByTopics
-  pub acts : (advertise : List ℕ) (act : Act) → call ≡ Of live.key act → (d : Live)
-      → ActsSo advertise live.key now round act tells plain before after (slice_index_or old place d).consumer a events said b live.consumer

@@ -7,7 +7,13 @@ use Rattle.model.specs.Entry.{Entry}
 abbrev pub after_turn : Hand → Entry → Hand
 after_turn hand e = cond (is_none e.reply) (after_pause 10 (after_read hand)) (after_read hand)
 
--- each moment is the reading of its turn, or the last moment where that is greater
-abbrev pub IsClocked : Hand → ℕ → List Entry → Hand → Type 0
-IsClocked hand last [] end = end ≡ hand
-IsClocked hand last (e ∷ entries) end = (e.moment ≡ max (after_read hand).now last) × IsClocked (after_turn hand e) e.moment entries end
+-- Each entry stands here with the moment before it in its shard's history. Its own moment is the reading of its turn, or
+-- the moment before it where that is greater.
+abbrev pub IsClocked : Hand → List (ℕ × Entry) → Hand → Type 0
+IsClocked hand [] end = end ≡ hand
+IsClocked hand (before ∷ entries) end = (let e = before.1 in e.moment ≡ max (after_read hand).now before.0) × IsClocked (after_turn hand before.1) entries end
+
+-- entries that follow one another in one history, behind this moment
+abbrev pub behind : ℕ → List Entry → List (ℕ × Entry)
+behind last [] = []
+behind last (e ∷ entries) = (last, e) ∷ behind e.moment entries

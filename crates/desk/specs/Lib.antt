@@ -1,3 +1,6 @@
+pub mod Keys
+pub mod Consumers
+pub mod Doing
 pub mod Shelf
 pub mod Stepping
 pub mod Calling

@@ -1,4 +1,5 @@
--- Entries of the model that lead from a state of the gateway to a state, and the answer to one call.
+-- Entries of the model that lead from a state of the gateway to a state, and the answer to one call. An instance that isn't
+-- used for `idle` milliseconds expires; `caller` is the number of the one whose calls these are.
 use Rattle.std.specs.Prelude.{ℕ, ◌+◌, ◌≤◌, ◌≡◌, cond, List, [], ◌∷◌, All, Option, Some, None}
 use Rattle.gate_io.specs.Clocks.{Hand}
 use Rattle.model.specs.Log.{Log}
@@ -11,14 +12,16 @@ use Rattle.model.specs.Served.{EndsIn, Serves}
 use Rattle.model.specs.Noted.{IsTable, said_of}
 use Rattle.model.specs.Texts.{Response, response_of}
 use Rattle.broker_link.specs.Causes.{Counts}
+use Rattle.broker_link.specs.Stands.{Stand}
 use Rattle.broker_link.specs.Replies.{CountsKept, IsCounted, IsCountedIf, IsGoodIf}
 use Rattle.rest_calls.specs.Views.{counted, given_name, is_unnamed, key_in}
 use Rattle.rest_codes.specs.declared.response.Reply.{Reply as CodeReply}
 use Rattle.rest_codes.specs.declared.response.Reply.TheVariants as reply
 use Rattle.instance.specs.Acting.{shown}
-use Rattle.desk.specs.Shelf.{AllThere}
-use Rattle.desk.specs.Stepping.{AreLow, never}
-use Rattle.desk.specs.Clocked.{IsClocked}
+use Rattle.desk.specs.Shelf.{AllThere, world_in}
+use Rattle.desk.specs.Stepping.{AreLow}
+use Rattle.desk.specs.Clocked.{IsClocked, behind}
+use Rattle.desk.specs.declared.shard.Shard.{Shard}
 
 -- the consumers and the log, where the clock stands, and what the link counts
 pub record State : Type 0 where
@@ -26,6 +29,14 @@ pub record State : Type 0 where
   pub log : Log
   pub hand : Hand
   pub counts : Counts
+
+-- the same of a link that stands so
+abbrev pub stood : World → Stand → Hand → State
+stood w a hand = record { world = w; log = a.log; hand = hand; counts = a.counts }
+
+-- the same of a shard
+abbrev pub state_of : {L : Type 0} → (L → Stand) → Shard L → Hand → State
+state_of stand shard hand = stood (world_in shard.instances shard.last) (stand shard.link) hand
 
 -- What the counts rose by pays what the entries owe: a fault or a refusal each, and nothing else is owed.
 pub record Pays (before after : Counts) (owed : Tally) : Type 0 where
@@ -37,17 +48,17 @@ pub record Pays (before after : Counts) (owed : Tally) : Type 0 where
 
 -- The entries lead from one state to the other. Over a plain link that has the consumers' partitions no reply is a
 -- failure of the link, and nobody else adds rows.
-pub record Runs (plain ticks : Type 0) (s : State) (entries : List Entry) (t : State) : Type 0 where
+pub record Runs (idle caller : ℕ) (plain ticks : Type 0) (s : State) (entries : List Entry) (t : State) : Type 0 where
   pub owed : Tally
-  pub run : Run never s.world s.log entries t.log t.world owed
+  pub run : Run idle s.world s.log entries t.log t.world owed
   pub kept : CountsKept s.counts t.counts
   pub paid : AreLow t.counts → Pays s.counts t.counts owed
-  pub clocked : ticks → IsClocked s.hand s.world.last entries t.hand
+  pub clocked : ticks → IsClocked s.hand (behind s.world.last entries) t.hand
   pub there : AllThere s.log s.world → AllThere t.log t.world
   pub good : plain → AllThere s.log s.world → All (λ e. IsGoodIf e.reply) entries
   pub alone : plain → t.log.others ≡ s.log.others
   pub shows : All (λ e. (table : List (List ℕ)) → (let x = e.turn in IsTable shown table x.forms)) entries
-  pub callers : All (λ e. e.caller ≡ 0) entries
+  pub callers : All (λ e. e.caller ≡ caller) entries
 
 -- the name that the gateway gives, as the calls define it
 unfoldable pub name_text : (worker count : ℕ) → List ℕ
@@ -64,18 +75,18 @@ named_after asked unnamed = cond (is_unnamed asked) (counted unnamed) unnamed
 
 -- A call was answered: by its looks without reply and the entry with the reply, of which this is the text. A fault or a
 -- refusal is its answer only where the link counted one meanwhile, and a broker's code is the link's last.
-pub record IsAnswered (advertise : List ℕ) (plain ticks : Type 0) (call : Call) (s : State) (said : Response) (t : State) : Type 0 where
+pub record IsAnswered (idle caller : ℕ) (advertise : List ℕ) (plain ticks : Type 0) (call : Call) (s : State) (said : Response) (t : State) : Type 0 where
   pub own : List Entry
-  pub runs : Runs plain ticks s own t
+  pub runs : Runs idle caller plain ticks s own t
   pub answer : Reply
   pub serves : Serves call answer own
   pub says : said ≡ response_of advertise (let e = serves.last in let x = e.turn in x.forms) call answer
   pub counted : IsCounted s.counts t.counts answer
 
 -- One turn was taken for a call: one entry, and the text of its reply, if it has one. One without reply ends in its look.
-pub record IsTurn (advertise : List ℕ) (plain ticks : Type 0) (call : Call) (round : ℕ) (s : State) (said : Option Response) (t : State) : Type 0 where
+pub record IsTurn (idle caller : ℕ) (advertise : List ℕ) (plain ticks : Type 0) (call : Call) (round : ℕ) (s : State) (said : Option Response) (t : State) : Type 0 where
   pub entry : Entry
-  pub runs : Runs plain ticks s (entry ∷ []) t
+  pub runs : Runs idle caller plain ticks s (entry ∷ []) t
   pub call_is : entry.call ≡ Some call
   pub round_is : entry.turn.round ≡ round
   pub says : said ≡ said_of advertise (let x = entry.turn in x.forms) (Some call) entry.reply

@@ -1,13 +1,21 @@
-use gate_io::Items;
+use gate_io::{Items, Text};
 use instance::Event;
+use rest_calls::Call;
 use rest_codes::Reply;
+use std::snapshot::Snapshot;
 
-/// What one step did, for which caller and at which moment. A look that found too little has no
-/// reply. The call stands beside it: the records of a produce are moved to the link.
-#[derive(Debug, Drop)]
+/// What one step did, for which caller and at which moment, in milliseconds. A look that found too
+/// little has no reply. The call, and the canonical texts of the schemas by which rows were shown,
+/// are as contracts see them and have no bytes: the records of a produce are moved to the link.
+#[derive(Drop)]
 pub struct Entry {
     pub caller: u32,
     pub moment: u64,
     pub events: Items<Event>,
+    /// None in an entry of housekeeping, which has no round either.
+    pub call: Option<Snapshot<Call>>,
+    /// How many looks the call had before.
+    pub round: Option<u32>,
+    pub table: Snapshot<Items<Text>>,
     pub reply: Option<Reply>,
 }

@@ -1,21 +1,22 @@
-ghost use Rattle.std.specs.Prelude.{◌≡◌, ◌<◌, ◌*◌, ◌^◌, ℕ, List, [], IfOk, IfSome, All, length, Some, None, true};
-ghost use Rattle.model.specs.Log.{Keeps, IsLog};
-ghost use Rattle.model.specs.World.{Key};
+ghost use Rattle.std.specs.Prelude.{◌≡◌, ◌<◌, ◌*◌, ◌^◌, max, ℕ, List, [], IfNone, IfOk, IfSome, All, length, Some, None, true};
+ghost use Rattle.broker_link.specs.Stands.{Goes};
+ghost use Rattle.model.specs.World.{Key, nobody};
 ghost use Rattle.model.specs.Entry.{Act};
 ghost use Rattle.model.specs.Entry.Call.{Of, Produce};
 ghost use Rattle.model.specs.Fixed.{SameCommits};
+ghost use Rattle.model.specs.Noted.{EndsInLook};
 ghost use Rattle.rest_calls.specs.Responses.{response_in};
 ghost use Rattle.rest_calls.specs.Views.{asked_of, batch_of, is_unnamed, NamesPartition};
-ghost use Rattle.instance.specs.Views.{Live, events_in, said_in};
-ghost use Rattle.instance.specs.Acting.{ActsSo};
-ghost use Rattle.std.specs.List.{remove};
-ghost use Rattle.desk.specs.Shelf.{AreApart, AreSound, StandsAt, consumer_in, is_create_call, key_of, world_in};
-ghost use Rattle.desk.specs.Calling.{ActsAt, CallsSo, OthersStay};
-ghost use Rattle.desk.specs.Stepping.{StepsSo, noted_in};
+ghost use Rattle.instance.specs.Views.{events_in, said_in};
+ghost use Rattle.desk.specs.Keys.{consumer_key};
+ghost use Rattle.desk.specs.Shelf.{consumer_in, is_create_call, world_in};
+ghost use Rattle.desk.specs.Calling.{CallsSo, OthersStay};
+ghost use Rattle.desk.specs.Stepping.{StepsSo, never, noted};
 
 use crate::Entry;
+use crate::consumers::Consumers;
 use crate::offsets::reply_to;
-use crate::shelf::{group_of, has_deleted, is_create, name_of, place_of, settings_in};
+use crate::shelf::{group_of, has_deleted, is_create, name_of, settings_in};
 use broker_link::Link;
 use gate_io::{Items, Text, Want};
 use instance::{Instance, Outcome, made, refused};
@@ -23,16 +24,17 @@ use producer::produce;
 use rest_calls::{Batch, Call, Settings};
 use rest_codes::Reply;
 use std::alloc::Global;
+use std::snapshot::Snapshot;
 
-/// The consumers of some keys over a link, and the moment of the last step.
+/// The consumers of some keys over a link, and the moment of the last step, in milliseconds.
 #[derive(Drop)]
-pub struct Shard<L: Link + Drop> {
+pub struct Shard<L> {
     pub link: L,
+    /// The link as it was at the beginning, as contracts see it.
+    pub first: Snapshot<L>,
     pub advertise: Text,
-    pub instances: Vec<Instance>,
+    pub instances: Consumers,
     pub last: u64,
-    pub ghost apart: { AreApart instances.items },
-    pub ghost sound: { AreSound instances.items },
 }
 
 /// What came of a call that had no event.
@@ -46,18 +48,29 @@ fn eventless(alloc: Global, reply: Reply) -> Outcome
     }
 }
 
+/// The table of schemas by which rows were shown: none, since no form has schemas yet.
+fn no_table(alloc: Global) -> Snapshot<Items<Text>>
+    ensures { result.value ≡ [] }
+{
+    let table = Items::new(alloc);
+    Snapshot::of(&table)
+}
+
 impl<L: Link + Drop> Shard<L> {
     /// Nobody is live, at moment 0. `advertise` is the host and port at which clients reach the gateway.
     pub fn new(alloc: Global, link: L, advertise: Text) -> Shard<L>
         ensures link { result.link ≡ link }
+        ensures first { result.first.value ≡ link }
         ensures advertise { result.advertise ≡ advertise }
-        ensures instances { result.instances.items ≡ [] }
+        ensures instances { world_in result.instances result.last ≡ nobody }
         ensures last { result.last ≡ 0 }
     {
+        let first = Snapshot::of(&link);
         Shard {
             link,
+            first,
             advertise,
-            instances: Vec::new(alloc),
+            instances: Consumers::new(alloc),
             last: 0,
         }
     }
@@ -70,130 +83,80 @@ impl<L: Link + Drop> Shard<L> {
         link
     }
 
-    /// Does a call of the instance at a place.
-    fn act_at(
-        &mut self,
-        alloc: Global,
-        place: usize,
-        moment: u64,
-        round: u32,
-        call: &Call,
-    ) -> Outcome
-        requires place { StandsAt self.old.instances.items (key_of (asked_of call.now)) place }
+    /// Does a call of the instance under its key, if one is live there. It is gone after a Delete that
+    /// was done.
+    fn call_live(&mut self, alloc: Global, moment: u64, round: u32, call: &Call) -> Option<Outcome>
         requires whose { (key : Key) × (act : Act) × (asked_of call.now ≡ Of key act) }
-        ensures acts { ActsAt self.old.instances.items place self.new.instances.items (asked_of call.now) moment round (L.tells self.old.link) (L.plain self.old.link) (L.counts self.old.link) (L.counts self.new.link) (L.log self.old.link) (events_in result) (said_in result) (L.log self.new.link) }
-        ensures waits { result.reply ≡ None → 10 * round < 2 ^ 32 }
+        ensures calls { IfSome result (λ outcome. (advertise : List ℕ) (key : Key) (act : Act) → asked_of call.now ≡ Of key act
+            → CallsSo advertise key moment round act (L.stand self.old.link).tells (L.stand self.old.link).plain (L.stand self.old.link).counts (L.stand self.new.link).counts (consumer_in self.old.instances key) (L.stand self.old.link).log (events_in outcome) (said_in outcome) (L.stand self.new.link).log (consumer_in self.new.instances key)) }
+        ensures others { (key : Key) (act : Act) → asked_of call.now ≡ Of key act → OthersStay key self.old.instances self.new.instances }
+        ensures waits { IfSome result (λ outcome. outcome.reply ≡ None → 10 * round < 2 ^ 32) }
+        ensures looks { IfSome result (λ outcome. outcome.reply ≡ None → EndsInLook (events_in outcome) round) }
+
+        ensures nobody { IfNone result (consumer_in self.new.instances (consumer_key (asked_of call.now)) ≡ None) }
+        ensures none { IfNone result (consumer_in self.old.instances (consumer_key (asked_of call.now)) ≡ None) }
+        ensures link { IfNone result (self.new.link ≡ self.old.link) }
+
         ensures advertise { self.new.advertise ≡ self.old.advertise }
+        ensures first { self.new.first ≡ self.old.first }
         ensures last { self.new.last ≡ self.old.last }
-
-        ensures telling { L.tells self.old.link → L.tells self.new.link }
-        ensures keeps { L.tells self.old.link → Keeps (L.log self.old.link) (L.log self.new.link) × SameCommits (L.log self.old.link) (L.log self.new.link) }
-        ensures is_log { L.tells self.old.link → IsLog (L.log self.old.link) → IsLog (L.log self.new.link) }
-        ensures plainly { L.plain self.old.link → L.plain self.new.link }
-        ensures alone { L.plain self.old.link → (L.log self.new.link).others ≡ (L.log self.old.link).others }
+        ensures goes { Goes (L.stand self.old.link) (L.stand self.new.link) }
+        ensures commits { (L.stand self.old.link).tells → SameCommits (L.stand self.old.link).log (L.stand self.new.link).log }
     {
-        self.instances[place].act(alloc, &mut self.link, moment, round, call)
-    }
-
-    /// Takes the instance at a place away.
-    fn take(&mut self, place: usize)
-        requires { place < length self.old.instances.items }
-        ensures items { self.new.instances.items ≡ remove self.old.instances.items place }
-        ensures link { self.new.link ≡ self.old.link }
-        ensures advertise { self.new.advertise ≡ self.old.advertise }
-        ensures last { self.new.last ≡ self.old.last }
-    {
-        self.instances.remove(place);
-    }
-
-    /// Does a call of the instance at a place, which is gone after a Delete that was done.
-    fn found(
-        &mut self,
-        alloc: Global,
-        place: usize,
-        moment: u64,
-        round: u32,
-        call: &Call,
-    ) -> Outcome
-        requires place { StandsAt self.old.instances.items (key_of (asked_of call.now)) place }
-        requires whose { (key : Key) × (act : Act) × (asked_of call.now ≡ Of key act) }
-        ensures calls { (advertise : List ℕ) (key : Key) (act : Act) → asked_of call.now ≡ Of key act
-            → CallsSo advertise key moment round act (L.tells self.old.link) (L.plain self.old.link) (L.counts self.old.link) (L.counts self.new.link) (consumer_in self.old.instances.items key) (L.log self.old.link) (events_in result) (said_in result) (L.log self.new.link) (consumer_in self.new.instances.items key) }
-        ensures others { (key : Key) (act : Act) → asked_of call.now ≡ Of key act → OthersStay key self.old.instances.items self.new.instances.items }
-        ensures waits { result.reply ≡ None → 10 * round < 2 ^ 32 }
-        ensures advertise { self.new.advertise ≡ self.old.advertise }
-        ensures last { self.new.last ≡ self.old.last }
-
-        ensures telling { L.tells self.old.link → L.tells self.new.link }
-        ensures keeps { L.tells self.old.link → Keeps (L.log self.old.link) (L.log self.new.link) × SameCommits (L.log self.old.link) (L.log self.new.link) }
-        ensures is_log { L.tells self.old.link → IsLog (L.log self.old.link) → IsLog (L.log self.new.link) }
-        ensures plainly { L.plain self.old.link → L.plain self.new.link }
-        ensures alone { L.plain self.old.link → (L.log self.new.link).others ≡ (L.log self.old.link).others }
-    {
-        let outcome = self.act_at(alloc, place, moment, round, call);
-        if has_deleted(call, &outcome) {
-            self.take(place);
+        let Some(outcome) = self
+            .instances
+            .act(alloc, &mut self.link, moment, round, call)
+        else {
+            return None;
+        };
+        if !has_deleted(call, &outcome) {
+            return Some(outcome);
         }
-        outcome
+        self.instances.remove(group_of(call), name_of(call));
+        Some(outcome)
     }
 
     /// Makes the instance that a Create names.
     fn create(&mut self, alloc: Global, moment: u64, call: &Call) -> Reply
         requires create { is_create_call (asked_of call.now) ≡ true }
-        requires none { consumer_in self.old.instances.items (key_of (asked_of call.now)) ≡ None }
+        requires none { consumer_in self.old.instances (consumer_key (asked_of call.now)) ≡ None }
         ensures calls { (key : Key) (act : Act) (round : ℕ) → asked_of call.now ≡ Of key act
-            → CallsSo self.old.advertise key moment round act (L.tells self.old.link) (L.plain self.old.link) (L.counts self.old.link) (L.counts self.old.link) None (L.log self.old.link) [] (Some (response_in result)) (L.log self.old.link) (consumer_in self.new.instances.items key) }
-        ensures others { (key : Key) (act : Act) → asked_of call.now ≡ Of key act → OthersStay key self.old.instances.items self.new.instances.items }
+            → CallsSo self.old.advertise key moment round act (L.stand self.old.link).tells (L.stand self.old.link).plain (L.stand self.old.link).counts (L.stand self.old.link).counts None (L.stand self.old.link).log [] (Some (response_in result)) (L.stand self.old.link).log (consumer_in self.new.instances key) }
+        ensures others { (key : Key) (act : Act) → asked_of call.now ≡ Of key act → OthersStay key self.old.instances self.new.instances }
         ensures link { self.new.link ≡ self.old.link }
         ensures advertise { self.new.advertise ≡ self.old.advertise }
+        ensures first { self.new.first ≡ self.old.first }
         ensures last { self.new.last ≡ self.old.last }
     {
-        let reply = made(
-            alloc,
-            self.advertise.as_str(),
-            group_of(call),
-            name_of(call),
-        );
+        let group = group_of(call);
+        let name = name_of(call);
+        let reply = made(alloc, self.advertise.as_str(), group, name);
         if let Reply::Want = reply {
             return Reply::Want;
         }
         let settings = settings_in(call);
-        let instance = match Instance::new(
-            alloc,
-            group_of(call),
-            name_of(call),
-            &settings,
-            moment,
-        ) {
+        let instance = match Instance::new(alloc, group, name, &settings, moment) {
             Ok(instance) => instance,
             Err(Want) => return Reply::Want,
         };
-        match self.instances.push(instance) {
+        match self.instances.add(alloc, group, name, instance) {
             Ok(()) => reply,
-            Err(_) => Reply::Want,
+            Err(Want) => Reply::Want,
         }
     }
 
-    /// Does a consumer's call, whether an instance is live under its key or not.
-    fn ask(&mut self, alloc: Global, moment: u64, round: u32, call: &Call) -> Outcome
-        requires whose { (key : Key) × (act : Act) × (asked_of call.now ≡ Of key act) }
-        ensures calls { (key : Key) (act : Act) → asked_of call.now ≡ Of key act
-            → CallsSo self.old.advertise key moment round act (L.tells self.old.link) (L.plain self.old.link) (L.counts self.old.link) (L.counts self.new.link) (consumer_in self.old.instances.items key) (L.log self.old.link) (events_in result) (said_in result) (L.log self.new.link) (consumer_in self.new.instances.items key) }
-        ensures others { (key : Key) (act : Act) → asked_of call.now ≡ Of key act → OthersStay key self.old.instances.items self.new.instances.items }
-        ensures waits { result.reply ≡ None → 10 * round < 2 ^ 32 }
+    /// Does a call under whose key nobody is live.
+    fn call_missing(&mut self, alloc: Global, moment: u64, call: &Call) -> Outcome
+        requires none { consumer_in self.old.instances (consumer_key (asked_of call.now)) ≡ None }
+        ensures calls { (key : Key) (act : Act) (round : ℕ) → asked_of call.now ≡ Of key act
+            → CallsSo self.old.advertise key moment round act (L.stand self.old.link).tells (L.stand self.old.link).plain (L.stand self.old.link).counts (L.stand self.old.link).counts None (L.stand self.old.link).log (events_in result) (said_in result) (L.stand self.old.link).log (consumer_in self.new.instances key) }
+        ensures others { (key : Key) (act : Act) → asked_of call.now ≡ Of key act → OthersStay key self.old.instances self.new.instances }
+        ensures replied { result.reply ≡ None → ⊥ }
+        ensures link { self.new.link ≡ self.old.link }
         ensures advertise { self.new.advertise ≡ self.old.advertise }
+        ensures first { self.new.first ≡ self.old.first }
         ensures last { self.new.last ≡ self.old.last }
-
-        ensures telling { L.tells self.old.link → L.tells self.new.link }
-        ensures keeps { L.tells self.old.link → Keeps (L.log self.old.link) (L.log self.new.link) × SameCommits (L.log self.old.link) (L.log self.new.link) }
-        ensures is_log { L.tells self.old.link → IsLog (L.log self.old.link) → IsLog (L.log self.new.link) }
-        ensures plainly { L.plain self.old.link → L.plain self.new.link }
-        ensures alone { L.plain self.old.link → (L.log self.new.link).others ≡ (L.log self.old.link).others }
     {
-        let place = place_of(self.instances.as_slice(), group_of(call), name_of(call));
-        if let Some(place) = place {
-            return self.found(alloc, place, moment, round, call);
-        }
         if is_create(call) {
             let reply = self.create(alloc, moment, call);
             return eventless(alloc, reply);
@@ -202,51 +165,84 @@ impl<L: Link + Drop> Shard<L> {
         eventless(alloc, reply)
     }
 
+    /// Does a consumer's call, whether an instance is live under its key or not.
+    fn dispatch(&mut self, alloc: Global, moment: u64, round: u32, call: &Call) -> Outcome
+        requires whose { (key : Key) × (act : Act) × (asked_of call.now ≡ Of key act) }
+        ensures calls { (key : Key) (act : Act) → asked_of call.now ≡ Of key act
+            → CallsSo self.old.advertise key moment round act (L.stand self.old.link).tells (L.stand self.old.link).plain (L.stand self.old.link).counts (L.stand self.new.link).counts (consumer_in self.old.instances key) (L.stand self.old.link).log (events_in result) (said_in result) (L.stand self.new.link).log (consumer_in self.new.instances key) }
+        ensures others { (key : Key) (act : Act) → asked_of call.now ≡ Of key act → OthersStay key self.old.instances self.new.instances }
+        ensures waits { result.reply ≡ None → 10 * round < 2 ^ 32 }
+        ensures looks { result.reply ≡ None → EndsInLook (events_in result) round }
+        ensures advertise { self.new.advertise ≡ self.old.advertise }
+        ensures first { self.new.first ≡ self.old.first }
+        ensures last { self.new.last ≡ self.old.last }
+
+        ensures goes { Goes (L.stand self.old.link) (L.stand self.new.link) }
+        ensures commits { (L.stand self.old.link).tells → SameCommits (L.stand self.old.link).log (L.stand self.new.link).log }
+    {
+        match self.call_live(alloc, moment, round, call) {
+            Some(outcome) => outcome,
+            None => self.call_missing(alloc, moment, call),
+        }
+    }
+
     /// Does a consumer's call for a caller: one step. Its moment is `now`, or that of the last step
     /// where that is greater; `round` counts the looks that the call had before.
     pub fn step(&mut self, alloc: Global, caller: u32, now: u64, round: u32, call: &Call) -> Entry
         requires whose { (key : Key) × (act : Act) × (asked_of call.now ≡ Of key act) }
-        ensures steps { StepsSo self.old.advertise caller now round (asked_of call.now) (L.tells self.old.link) (L.plain self.old.link) (L.counts self.old.link) (L.counts self.new.link) (world_in self.old.instances.items self.old.last) (L.log self.old.link) (noted_in (asked_of call.now) result) (L.log self.new.link) (world_in self.new.instances.items self.new.last) }
-        ensures waits { result.reply ≡ None → 10 * round < 2 ^ 32 }
-        ensures advertise { self.new.advertise ≡ self.old.advertise }
+        ensures steps { StepsSo never self.old.advertise (L.stand self.old.link) (world_in self.old.instances self.old.last) (noted result) (L.stand self.new.link) (world_in self.new.instances self.new.last) }
 
-        ensures telling { L.tells self.old.link → L.tells self.new.link }
-        ensures is_log { L.tells self.old.link → IsLog (L.log self.old.link) → IsLog (L.log self.new.link) }
-        ensures plainly { L.plain self.old.link → L.plain self.new.link }
-        ensures alone { L.plain self.old.link → (L.log self.new.link).others ≡ (L.log self.old.link).others }
+        // What is known of the entry, whatever the link tells.
+        ensures caller { result.caller ≡ caller }
+        ensures moment { result.moment ≡ max now self.old.last }
+        ensures call { (noted result).call ≡ Some (asked_of call.now) }
+        ensures round { result.round ≡ Some round }
+        ensures waits { result.reply ≡ None → 10 * round < 2 ^ 32 }
+        ensures looks { result.reply ≡ None → EndsInLook (noted result).events round }
+
+        ensures advertise { self.new.advertise ≡ self.old.advertise }
+        ensures first { self.new.first ≡ self.old.first }
     {
         let moment = now.max(self.last);
         self.last = moment;
-        let outcome = self.ask(alloc, moment, round, call);
+        let outcome = self.dispatch(alloc, moment, round, call);
         Entry {
             caller,
             moment,
             events: outcome.events,
+            call: Some(Snapshot::of(call)),
+            round: Some(round),
+            table: no_table(alloc),
             reply: outcome.reply,
         }
     }
 
     /// Stores the records of a produce for a caller: one step. There are some, fewer than 2^63, and
-    /// each names its partition.
+    /// each names its partition. `asked` is the call that they are of.
     pub fn produce(
         &mut self,
         alloc: Global,
         caller: u32,
         now: u64,
+        asked: Snapshot<Call>,
         topic: &str,
         batch: Batch,
     ) -> Entry
         requires some { 0 < length batch.rows }
         requires few { length batch.rows < 2 ^ 63 }
         requires named { All NamesPartition batch.rows }
-        ensures steps { StepsSo self.old.advertise caller now 0 (Produce topic.now (batch_of batch)) (L.tells self.old.link) (L.plain self.old.link) (L.counts self.old.link) (L.counts self.new.link) (world_in self.old.instances.items self.old.last) (L.log self.old.link) (noted_in (Produce topic.now (batch_of batch)) result) (L.log self.new.link) (world_in self.new.instances.items self.new.last) }
-        ensures replied { result.reply ≡ None → ⊥ }
-        ensures advertise { self.new.advertise ≡ self.old.advertise }
+        requires whose { asked_of asked.value ≡ Produce topic.now (batch_of batch) }
+        ensures steps { StepsSo never self.old.advertise (L.stand self.old.link) (world_in self.old.instances self.old.last) (noted result) (L.stand self.new.link) (world_in self.new.instances self.new.last) }
 
-        ensures telling { L.tells self.old.link → L.tells self.new.link }
-        ensures is_log { L.tells self.old.link → IsLog (L.log self.old.link) → IsLog (L.log self.new.link) }
-        ensures plainly { L.plain self.old.link → L.plain self.new.link }
-        ensures alone { L.plain self.old.link → (L.log self.new.link).others ≡ (L.log self.old.link).others }
+        // What is known of the entry, whatever the link tells.
+        ensures caller { result.caller ≡ caller }
+        ensures moment { result.moment ≡ max now self.old.last }
+        ensures call { (noted result).call ≡ Some (Produce topic.now (batch_of batch)) }
+        ensures round { result.round ≡ Some 0 }
+        ensures replied { result.reply ≡ None → ⊥ }
+
+        ensures advertise { self.new.advertise ≡ self.old.advertise }
+        ensures first { self.new.first ≡ self.old.first }
     {
         let moment = now.max(self.last);
         self.last = moment;
@@ -256,6 +252,9 @@ impl<L: Link + Drop> Shard<L> {
             caller,
             moment,
             events: Items::new(alloc),
+            call: Some(asked),
+            round: Some(0),
+            table: no_table(alloc),
             reply: Some(reply),
         }
     }

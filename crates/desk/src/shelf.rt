@@ -1,26 +1,17 @@
-ghost use Rattle.std.specs.Prelude.{◌≡◌, ◌<◌, ◌&&◌, IfSome, length};
-ghost use Rattle.std.specs.List.{position};
-ghost use Rattle.model.specs.World.{is_key};
+ghost use Rattle.std.specs.Prelude.{◌≡◌, ◌&&◌};
 ghost use Rattle.model.specs.World.{Key};
 ghost use Rattle.model.specs.Entry.Call.{Of};
-ghost use Rattle.rest_calls.specs.Views.{asked_of, key_in};
+ghost use Rattle.rest_calls.specs.Views.{asked_of};
 ghost use Rattle.model.specs.World.{Settings as Asked};
 ghost use Rattle.model.specs.Entry.Act.{Create};
 ghost use Rattle.rest_calls.specs.Views.{settings_of};
-ghost use Rattle.desk.specs.Shelf.{group_in, name_in_call, is_create_call, is_delete_call, is_empty_reply};
+ghost use Rattle.desk.specs.Keys.{group_in, name_in_call};
+ghost use Rattle.desk.specs.Shelf.{is_create_call, is_delete_call, is_empty_reply};
 
 use broker_link::Edge;
-use instance::{Instance, Outcome};
+use instance::Outcome;
 use rest_calls::{Call, Settings};
 use rest_codes::Reply;
-
-/// The place of the instance of that name in that group.
-pub(crate) fn place_of(instances: &[Instance], group: &str, name: &str) -> Option<usize>
-    ensures place { result ≡ position (λ i. is_key i.key (key_in group.now name.now)) instances.now }
-    ensures within { IfSome result (λ p. p < length instances.now) }
-{
-    instances.iter().position(|i| i.is_of(group, name))
-}
 
 /// The group that a consumer's call names.
 pub(crate) fn group_of(call: &Call) -> &str

@@ -15,7 +15,7 @@ use Rattle.model.specs.Entry.Call.{Of}
 use Rattle.model.specs.Entry.Event.{Reset, Looked}
 use Rattle.model.specs.Entry.Reply.{Want as NoMemory}
 use Rattle.model.specs.Texts.{Response, response_of}
-use Rattle.model.specs.Noted.{said_of, events_of}
+use Rattle.model.specs.Noted.{said_of, events_of, EndsInLook}
 use Rattle.model.specs.Causes.{IsRebalanced, IsPumped, has_looked, placed_in, Pumped}
 use Rattle.model.specs.Causes.Pumped.{Unpumped}
 use Rattle.model.specs.Fixed.{HasPart}
@@ -50,6 +50,10 @@ own_events [] = refl
 own_events (CodeReset place ∷ events) = ap (λ es. inr (own_of (CodeReset place)) ∷ es) (own_events events)
 own_events (CodeLooked k ∷ events) = ap (λ es. inr (own_of (CodeLooked k)) ∷ es) (own_events events)
 
+-- events that end in the mark of a look
+pub ends_in_look : (before events : List CodeEvent) (round : ℕ) → events ≡ before ++ CodeLooked round ∷ [] → EndsInLook (map event_of events) round
+ends_in_look before events round is = (map event_of before, ap (map event_of) is ∙ map-append event_of before (CodeLooked round ∷ []))
+
 -- a look's last events: its mark, or none
 data IsMark : List Event → Type 0 where
   NoMark : IsMark []
@@ -69,7 +73,7 @@ none_placed [] looked (OneMark k) = refl
 none_placed (n ∷ ns) looked mark = none_placed ns looked mark
 
 -- a look whose mode isn't topics pumps nothing
-quiet : (before after : Counts) (c : Consumer) (own : List Event) → c.mode ≢ ByTopics → placed_in own ≡ None → IsRebalanced (totals before) (totals after) None c own
+quiet : (before after : Counts) (c : Consumer) (own : List Event) → c.mode ≢ ByTopics → placed_in own ≡ None → IsRebalanced (totals before) (totals after) None None c own
 quiet before after c own mode none = record {
   pumped = Unpumped;
   pump = record {
@@ -80,6 +84,7 @@ quiet before after c own mode none = record {
     lost = λ e. absurd (cc e);
     shared = λ ats e. absurd (cc e);
   };
+  ties = λ ats e. absurd (cc e);
   places = subst (λ o. Rattle.model.specs.Causes.Rebalances c Unpumped None (IsTrue (has_looked own)) o) (sym none) (λ looked. (refl, λ e. absurd (cc e)));
 }
 

@@ -74,14 +74,14 @@ wanting (call.Records group name timeout bound) key (Records formats t b) is mom
     subst (λ (fs : List Format). Looks key moment turn fs t b c a [] (Some Want) a (Some (touched moment c))) (sym nil) (inr (refl, wanting_look key moment turn t b c a off log))
 wanting call key act is moment turn c a off mode log = absurd (cc is)
 
-pub unpumped : (call : Call) (key : Key) (act : Act) → asked_of call ≡ Of key act → (before after : legal.Counts) (c : Consumer) → c.mode ≢ ByTopics → LooksWell before after None c act []
+pub unpumped : (call : Call) (key : Key) (act : Act) → asked_of call ≡ Of key act → (before after : legal.Counts) (c : Consumer) → c.mode ≢ ByTopics → LooksWell before after None None c act []
 unpumped (call.Produce topic batch) key act is before after c mode = absurd (cc is)
 unpumped (call.Create group name settings) key (Create s) is before after c mode = tt
 unpumped (call.Delete group name) key Delete is before after c mode = tt
 unpumped (call.Assign group name parts) key (Assign ats) is before after c mode = tt
 unpumped (call.Assignments group name) key Assignments is before after c mode = tt
 unpumped (call.Records group name timeout bound) key (Records formats t b) is before after c mode =
-    record { pumped = Unpumped; pump = record { pumps = λ by reached. absurd (mode by); quiet = λ other. refl; steady = λ e. absurd (cc e); not_yet = λ e. absurd (cc e); lost = λ e. absurd (cc e); shared = λ ats e. absurd (cc e) }; places = λ looked. (refl, λ e. absurd (cc e)) }
+    record { pumped = Unpumped; pump = record { pumps = λ by reached. absurd (mode by); quiet = λ other. refl; steady = λ e. absurd (cc e); not_yet = λ e. absurd (cc e); lost = λ e. absurd (cc e); shared = λ ats e. absurd (cc e) }; ties = λ ats e. absurd (cc e); places = λ looked. (refl, λ e. absurd (cc e)) }
 unpumped call key act is before after c mode = absurd (cc is)
 
 pub want_acts : (call : Call) (advertise : List ℕ) (key : Key) (moment round : ℕ) (act : Act) → asked_of call ≡ Of key act → (tells plain : Type 0) (before : Counts) (c : Consumer) (a : Log)

@@ -42,6 +42,6 @@ pub record ActsSo (advertise : List ℕ) (key : Key) (now round : ℕ) (act : Ac
   pub reply : Option Reply
   pub says : said ≡ said_of advertise forms (Some (Of key act)) reply
   pub counted : IsCountedIf before after reply
-  pub acted : tells → IsLog a → (table : List (List ℕ)) → (x : Acted advertise shown table key now round act (totals before) (totals after) None c a events said b c2) × (x.reply ≡ reply)
+  pub acted : tells → IsLog a → (table : List (List ℕ)) → (x : Acted advertise shown table key now round act (totals before) (totals after) None None c a events said b c2) × (x.reply ≡ reply)
   pub there : tells → IsLog a → AreThere a c → AreThere b c2
   pub good : plain → tells → IsLog a → AreThere a c → IsGoodIf reply

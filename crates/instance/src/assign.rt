@@ -5,7 +5,7 @@ ghost use Rattle.model.specs.Fixed.{Fixes};
 ghost use Rattle.model.specs.Rules.{IsSet, lacking};
 ghost use Rattle.model.specs.Entry.Act.{Assign};
 ghost use Rattle.broker_link.specs.Fetching.{at_of, edge_view};
-ghost use Rattle.broker_link.specs.Replies.{IsGood};
+ghost use Rattle.broker_link.specs.Replies.{CountsKept, IsGood};
 ghost use Rattle.rest_calls.specs.Responses.{response_in};
 ghost use Rattle.rest_calls.specs.Views.{key_in};
 ghost use Rattle.instance.specs.Acting.{ActsSo};
@@ -32,14 +32,14 @@ fn places_for<L: Link>(
     kept: &[Place],
     parts: &[TopicPart],
 ) -> Result<Vec<Place>, AssignNo>
-    ensures goes { GoesOn (L.tells link.old) (L.tells link.new) (L.plain link.old) (L.plain link.new) (L.log link.old) (L.log link.new) }
-    ensures caused { IsCaused (L.counts link.old) (L.counts link.new) result }
-    ensures code { L.tells link.old → IsLog (L.log link.old) → FitsCode (lacking (L.log link.old) (map at_of parts.now) (map at_of parts.now)) result }
+    ensures goes { GoesOn (L.stand link.old).tells (L.stand link.new).tells (L.stand link.old).plain (L.stand link.new).plain (L.stand link.old).log (L.stand link.new).log }
+    ensures caused { IsCaused (L.stand link.old).counts (L.stand link.new).counts result }
+    ensures code { (L.stand link.old).tells → IsLog (L.stand link.old).log → FitsCode (lacking (L.stand link.old).log (map at_of parts.now) (map at_of parts.now)) result }
     ensures set { IfOk result (λ places. IsSet (map at_of parts.now) (map place_of places.items)) }
     ensures small { IfOk result (λ places. IsLow (map place_of places.items)) }
-    ensures fixes { L.tells link.old → IsLog (L.log link.old) → IfOk result (λ places.
-        Fixes ((L.log link.old).committed group.now) (edge_view reset) (map place_of kept.now) (L.log link.old) (map at_in places.items) (map place_of places.items) (L.log link.new)) }
-    ensures good { L.plain link.old → L.tells link.old → IsLog (L.log link.old) → IfErr result (λ no. IsGood (refusal_of no)) }
+    ensures fixes { (L.stand link.old).tells → IsLog (L.stand link.old).log → IfOk result (λ places.
+        Fixes ((L.stand link.old).log.committed group.now) (edge_view reset) (map place_of kept.now) (L.stand link.old).log (map at_in places.items) (map place_of places.items) (L.stand link.new).log) }
+    ensures good { (L.stand link.old).plain → (L.stand link.old).tells → IsLog (L.stand link.old).log → IfErr result (λ no. IsGood (refusal_of no)) }
 {
     check_topics(alloc, link, parts)?;
     let sorted = sorted(alloc, parts)?;
@@ -68,8 +68,9 @@ pub(crate) fn assign<L: Link>(
 ) -> Reply
     requires sound { IsSound consumer.old }
     ensures sound { IsSound consumer.new }
-    ensures goes { GoesOn (L.tells link.old) (L.tells link.new) (L.plain link.old) (L.plain link.new) (L.log link.old) (L.log link.new) }
-    ensures acts { (advertise instance : List ℕ) (round : ℕ) → ActsSo advertise (key_in group.now instance) now round (Assign (map at_of parts.now)) (L.tells link.old) (L.plain link.old) (L.counts link.old) (L.counts link.new) (consumer_of consumer.old) (L.log link.old) [] (Some (response_in result)) (L.log link.new) (consumer_of consumer.new) }
+    ensures goes { GoesOn (L.stand link.old).tells (L.stand link.new).tells (L.stand link.old).plain (L.stand link.new).plain (L.stand link.old).log (L.stand link.new).log }
+    ensures kept { CountsKept (L.stand link.old).counts (L.stand link.new).counts }
+    ensures acts { (advertise instance : List ℕ) (round : ℕ) → ActsSo advertise (key_in group.now instance) now round (Assign (map at_of parts.now)) (L.stand link.old).tells (L.stand link.old).plain (L.stand link.old).counts (L.stand link.new).counts (consumer_of consumer.old) (L.stand link.old).log [] (Some (response_in result)) (L.stand link.new).log (consumer_of consumer.new) }
 {
     consumer.last_use = now;
     if parts.is_empty() {

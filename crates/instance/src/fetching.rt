@@ -90,12 +90,12 @@ pub(crate) fn fetch_from<L: Link>(
     requires first { first ≤ length places.now }
     requires few { most < 2 ^ 31 }
     requires order { IsInOrder (map place_of places.now) }
-    ensures passes { Passes (L.tells link.old) (L.tells link.new) (L.plain link.old) (L.plain link.new) (L.log link.old) (L.log link.new) (L.counts link.old) (L.counts link.new) }
+    ensures passes { Passes (L.stand link.old).tells (L.stand link.new).tells (L.stand link.old).plain (L.stand link.new).plain (L.stand link.old).log (L.stand link.new).log (L.stand link.old).counts (L.stand link.new).counts }
     ensures same { IfOk result (λ fetched. length fetched ≡ length places.now) }
     ensures offsets { IfOk result (All HasOffsets) }
-    ensures got { L.tells link.old → IfOk result (GotFrom (L.log link.new) (map place_of places.now)) }
-    ensures good { L.plain link.old → L.tells link.old → HaveAll (L.log link.old) (map place_of places.now) → IfErr result (λ e. e ≡ Want) }
-    ensures cause { IfErr result (ComesOf (L.counts link.old) (L.counts link.new)) }
+    ensures got { (L.stand link.old).tells → IfOk result (GotFrom (L.stand link.new).log (map place_of places.now)) }
+    ensures good { (L.stand link.old).plain → (L.stand link.old).tells → HaveAll (L.stand link.old).log (map place_of places.now) → IfErr result (λ e. e ≡ Want) }
+    ensures cause { IfErr result (ComesOf (L.stand link.old).counts (L.stand link.new).counts) }
 {
     let mut asks = asks_from(alloc, places)?;
     asks.rotate_left(first);

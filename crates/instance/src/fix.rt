@@ -25,13 +25,13 @@ fn fix_one<L: Link>(
     known: i64,
     reset: Edge,
 ) -> Result<i64, AssignNo>
-    ensures goes { GoesOn (L.tells link.old) (L.tells link.new) (L.plain link.old) (L.plain link.new) (L.log link.old) (L.log link.new) }
-    ensures caused { IsCaused (L.counts link.old) (L.counts link.new) result }
+    ensures goes { GoesOn (L.stand link.old).tells (L.stand link.new).tells (L.stand link.old).plain (L.stand link.new).plain (L.stand link.old).log (L.stand link.new).log }
+    ensures caused { IsCaused (L.stand link.old).counts (L.stand link.new).counts result }
     ensures failed { IfErr result IsFailed }
     ensures low { IfOk result (λ offset. pos 0 ≤ℤ offset) }
     ensures small { IfOk result (λ offset. nat_abs offset < 2 ^ 63) }
-    ensures fixed { L.tells link.old → IfOk result (λ offset. IsFixed (L.log link.new) (edge_view reset) (at_of part.now) known (nat_abs offset)) }
-    ensures good { L.plain link.old → L.tells link.old → HasPart (L.log link.old) (at_of part.now) → IfErr result (λ no. IsGood (refusal_of no)) }
+    ensures fixed { (L.stand link.old).tells → IfOk result (λ offset. IsFixed (L.stand link.new).log (edge_view reset) (at_of part.now) known (nat_abs offset)) }
+    ensures good { (L.stand link.old).plain → (L.stand link.old).tells → HasPart (L.stand link.old).log (at_of part.now) → IfErr result (λ no. IsGood (refusal_of no)) }
 {
     if known >= 0 {
         return Ok(known);
@@ -60,13 +60,13 @@ fn fix_next<L: Link>(
     known: i64,
     reset: Edge,
 ) -> Result<Place, AssignNo>
-    ensures goes { GoesOn (L.tells link.old) (L.tells link.new) (L.plain link.old) (L.plain link.new) (L.log link.old) (L.log link.new) }
-    ensures caused { IsCaused (L.counts link.old) (L.counts link.new) result }
+    ensures goes { GoesOn (L.stand link.old).tells (L.stand link.new).tells (L.stand link.old).plain (L.stand link.new).plain (L.stand link.old).log (L.stand link.new).log }
+    ensures caused { IsCaused (L.stand link.old).counts (L.stand link.new).counts result }
     ensures failed { IfErr result IsFailed }
     ensures whose { IfOk result (λ place. at_in place ≡ at_of part.now) }
     ensures small { IfOk result (λ place. nat_abs place.position < 2 ^ 63) }
-    ensures fixed { L.tells link.old → IfOk result (λ place. IsFixed (L.log link.new) (edge_view reset) (at_of part.now) known (nat_abs place.position)) }
-    ensures good { L.plain link.old → L.tells link.old → HasPart (L.log link.old) (at_of part.now) → IfErr result (λ no. IsGood (refusal_of no)) }
+    ensures fixed { (L.stand link.old).tells → IfOk result (λ place. IsFixed (L.stand link.new).log (edge_view reset) (at_of part.now) known (nat_abs place.position)) }
+    ensures good { (L.stand link.old).plain → (L.stand link.old).tells → HasPart (L.stand link.old).log (at_of part.now) → IfErr result (λ no. IsGood (refusal_of no)) }
 {
     let position = fix_one(alloc, link, part, known, reset)?;
     let place = placed(alloc, part, position)?;
@@ -89,13 +89,13 @@ fn fix_all<L: Link>(
     reset: Edge,
 ) -> Result<Vec<Place>, AssignNo>
     requires same { length known.now ≡ length parts.now }
-    ensures goes { GoesOn (L.tells link.old) (L.tells link.new) (L.plain link.old) (L.plain link.new) (L.log link.old) (L.log link.new) }
-    ensures caused { IsCaused (L.counts link.old) (L.counts link.new) result }
+    ensures goes { GoesOn (L.stand link.old).tells (L.stand link.new).tells (L.stand link.old).plain (L.stand link.new).plain (L.stand link.old).log (L.stand link.new).log }
+    ensures caused { IsCaused (L.stand link.old).counts (L.stand link.new).counts result }
     ensures failed { IfErr result IsFailed }
     ensures whose { IfOk result (λ places. map at_in places.items ≡ map at_of parts.now) }
     ensures small { IfOk result (λ places. IsLow (map place_of places.items)) }
-    ensures fixed { L.tells link.old → IsLog (L.log link.old) → IfOk result (λ places. AreFixed (edge_view reset) (L.log link.old) (map at_of parts.now) known.now (map place_of places.items) (L.log link.new)) }
-    ensures good { L.plain link.old → L.tells link.old → All (HasPart (L.log link.old)) (map at_of parts.now) → IfErr result (λ no. IsGood (refusal_of no)) }
+    ensures fixed { (L.stand link.old).tells → IsLog (L.stand link.old).log → IfOk result (λ places. AreFixed (edge_view reset) (L.stand link.old).log (map at_of parts.now) known.now (map place_of places.items) (L.stand link.new).log) }
+    ensures good { (L.stand link.old).plain → (L.stand link.old).tells → All (HasPart (L.stand link.old).log) (map at_of parts.now) → IfErr result (λ no. IsGood (refusal_of no)) }
 {
     let mut places = Vec::new(alloc);
     for (i, part) in parts.iter().enumerate() {
@@ -113,12 +113,12 @@ fn committed<L: Link>(
     news: &[TopicPart],
 ) -> Result<Items<i64>, AssignNo>
     requires { AreRising (map at_of news.now) }
-    ensures goes { GoesOn (L.tells link.old) (L.tells link.new) (L.plain link.old) (L.plain link.new) (L.log link.old) (L.log link.new) }
-    ensures caused { IsCaused (L.counts link.old) (L.counts link.new) result }
+    ensures goes { GoesOn (L.stand link.old).tells (L.stand link.new).tells (L.stand link.old).plain (L.stand link.new).plain (L.stand link.old).log (L.stand link.new).log }
+    ensures caused { IsCaused (L.stand link.old).counts (L.stand link.new).counts result }
     ensures failed { IfErr result IsFailed }
     ensures count { IfOk result (λ offsets. length offsets ≡ length news.now) }
-    ensures told { L.tells link.old → IfOk result (AllZip (IsCommittedAt (L.log link.new) group.now) news.now) }
-    ensures good { L.plain link.old → IfErr result (λ no. IsGood (refusal_of no)) }
+    ensures told { (L.stand link.old).tells → IfOk result (AllZip (IsCommittedAt (L.stand link.new).log group.now) news.now) }
+    ensures good { (L.stand link.old).plain → IfErr result (λ no. IsGood (refusal_of no)) }
 {
     if news.is_empty() {
         return Ok(Items::new(alloc));
@@ -138,14 +138,14 @@ pub(crate) fn fix<L: Link>(
     parts: &[TopicPart],
 ) -> Result<Vec<Place>, AssignNo>
     requires { AreRising (map at_of parts.now) }
-    ensures goes { GoesOn (L.tells link.old) (L.tells link.new) (L.plain link.old) (L.plain link.new) (L.log link.old) (L.log link.new) }
-    ensures caused { IsCaused (L.counts link.old) (L.counts link.new) result }
+    ensures goes { GoesOn (L.stand link.old).tells (L.stand link.new).tells (L.stand link.old).plain (L.stand link.new).plain (L.stand link.old).log (L.stand link.new).log }
+    ensures caused { IsCaused (L.stand link.old).counts (L.stand link.new).counts result }
     ensures failed { IfErr result IsFailed }
     ensures whose { IfOk result (λ places. map at_in places.items ≡ map at_of parts.now) }
     ensures small { IfOk result (λ places. IsLow (map place_of places.items)) }
-    ensures fixes { L.tells link.old → IsLog (L.log link.old) → IfOk result (λ places.
-        Fixes ((L.log link.old).committed group.now) (edge_view reset) (map place_of kept.now) (L.log link.old) (map at_of parts.now) (map place_of places.items) (L.log link.new)) }
-    ensures good { L.plain link.old → L.tells link.old → All (HasPart (L.log link.old)) (map at_of parts.now) → IfErr result (λ no. IsGood (refusal_of no)) }
+    ensures fixes { (L.stand link.old).tells → IsLog (L.stand link.old).log → IfOk result (λ places.
+        Fixes ((L.stand link.old).log.committed group.now) (edge_view reset) (map place_of kept.now) (L.stand link.old).log (map at_of parts.now) (map place_of places.items) (L.stand link.new).log) }
+    ensures good { (L.stand link.old).plain → (L.stand link.old).tells → All (HasPart (L.stand link.old).log) (map at_of parts.now) → IfErr result (λ no. IsGood (refusal_of no)) }
 {
     let news = news_of(alloc, kept, parts)?;
     let offsets = committed(alloc, link, group, news.as_slice())?;

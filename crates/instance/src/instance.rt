@@ -1,10 +1,11 @@
 ghost use Rattle.std.specs.Prelude.{◌≡◌, ◌≢◌, ◌<◌, ◌*◌, ◌^◌, ℕ, List, [], IfOk, None, Some, map};
-ghost use Rattle.model.specs.Log.{Keeps, IsLog};
+ghost use Rattle.broker_link.specs.Stands.{Goes};
 ghost use Rattle.model.specs.World.{IsConsumer, fresh, is_key};
 ghost use Rattle.model.specs.World.Mode.{ByTopics};
 ghost use Rattle.model.specs.Entry.{Act};
 ghost use Rattle.model.specs.Entry.Call.{Of};
 ghost use Rattle.model.specs.Fixed.{SameCommits};
+ghost use Rattle.model.specs.Noted.{EndsInLook};
 ghost use Rattle.rest_calls.specs.Views.{asked_of, key_in, settings_of};
 ghost use Rattle.instance.specs.Acting.{ActsSo};
 ghost use Rattle.rest_calls.specs.Responses.{response_in};
@@ -124,17 +125,15 @@ impl Instance {
     ) -> Outcome
         requires whose { (act : Act) × (asked_of call.now ≡ Of self.old.key act) }
         ensures acts { (advertise : List ℕ) (act : Act) → asked_of call.now ≡ Of self.old.key act
-            → ActsSo advertise self.old.key now round act (L.tells link.old) (L.plain link.old) (L.counts link.old) (L.counts link.new) self.old.consumer (L.log link.old) (events_in result) (said_in result) (L.log link.new) self.new.consumer }
+            → ActsSo advertise self.old.key now round act (L.stand link.old).tells (L.stand link.old).plain (L.stand link.old).counts (L.stand link.new).counts self.old.consumer (L.stand link.old).log (events_in result) (said_in result) (L.stand link.new).log self.new.consumer }
         ensures key { self.new.key ≡ self.old.key }
         ensures unsubscribed { self.old.consumer.mode ≢ ByTopics }
         ensures waits { result.reply ≡ None → 10 * round < 2 ^ 32 }
+        ensures looks { result.reply ≡ None → EndsInLook (events_in result) round }
         ensures sound { IsConsumer self.new.consumer }
 
-        ensures telling { L.tells link.old → L.tells link.new }
-        ensures keeps { L.tells link.old → Keeps (L.log link.old) (L.log link.new) × SameCommits (L.log link.old) (L.log link.new) }
-        ensures is_log { L.tells link.old → IsLog (L.log link.old) → IsLog (L.log link.new) }
-        ensures plainly { L.plain link.old → L.plain link.new }
-        ensures alone { L.plain link.old → (L.log link.new).others ≡ (L.log link.old).others }
+        ensures goes { Goes (L.stand link.old) (L.stand link.new) }
+        ensures commits { (L.stand link.old).tells → SameCommits (L.stand link.old).log (L.stand link.new).log }
     {
         match call {
             Call::Records {

@@ -1,9 +1,11 @@
 ghost use Rattle.std.specs.Prelude.{◌≡◌, ◌*◌, ◌≤◌, ◌^◌, None, ◌++◌, [], ◌∷◌, ◌<◌, All, IfOk, IfErr, OnErr, List, ℕ, length, map, option_map};
-ghost use Rattle.model.specs.Log.{IsLog, Keeps};
+ghost use Rattle.model.specs.Log.{IsLog};
+ghost use Rattle.broker_link.specs.Stands.{Goes};
 ghost use Rattle.model.specs.World.{IsInOrder, IsLow, Key};
 ghost use Rattle.model.specs.Entry.Act.{Records};
 ghost use Rattle.model.specs.Events.{at_most};
 ghost use Rattle.model.specs.Fixed.{SameCommits};
+ghost use Rattle.model.specs.Noted.{EndsInLook};
 ghost use Rattle.broker_link.specs.Causes.{ComesOf};
 ghost use Rattle.broker_link.specs.Fetching.{edge_view};
 ghost use Rattle.broker_link.specs.declared.link.LinkNo.TheVariants.{Want};
@@ -48,15 +50,15 @@ fn gather<L: Link>(
     requires first { first ≤ length places.old }
     requires few { most < 2 ^ 31 }
     requires none { events.old ≡ [] }
-    ensures passes { Passes (L.tells link.old) (L.tells link.new) (L.plain link.old) (L.plain link.new) (L.log link.old) (L.log link.new) (L.counts link.old) (L.counts link.new) }
-    ensures set { SetsBack (L.tells link.old) (edge_view edge) (L.log link.old) (map place_of places.old) events.new (L.log link.new) (map place_of places.new) }
+    ensures passes { Passes (L.stand link.old).tells (L.stand link.new).tells (L.stand link.old).plain (L.stand link.new).plain (L.stand link.old).log (L.stand link.new).log (L.stand link.old).counts (L.stand link.new).counts }
+    ensures set { SetsBack (L.stand link.old).tells (edge_view edge) (L.stand link.old).log (map place_of places.old) events.new (L.stand link.new).log (map place_of places.new) }
     ensures kept { IsLow (map place_of places.old) → IsLow (map place_of places.new) }
     ensures same { IfOk result (λ fetched. length fetched ≡ length places.new) }
     ensures offsets { IfOk result (All HasOffsets) }
-    ensures hand { L.tells link.old → IsLog (L.log link.old) → IfOk result (λ fetched. IsHand (L.log link.new) (map place_of places.new) (lots_of places.new fetched)) }
+    ensures hand { (L.stand link.old).tells → IsLog (L.stand link.old).log → IfOk result (λ fetched. IsHand (L.stand link.new).log (map place_of places.new) (lots_of places.new fetched)) }
     ensures sent { OnErr result (0 < length places.old) }
-    ensures good { L.plain link.old → L.tells link.old → HaveAll (L.log link.old) (map place_of places.old) → IfErr result (λ e. e ≡ Want) }
-    ensures cause { IfErr result (ComesOf (L.counts link.old) (L.counts link.new)) }
+    ensures good { (L.stand link.old).plain → (L.stand link.old).tells → HaveAll (L.stand link.old).log (map place_of places.old) → IfErr result (λ e. e ≡ Want) }
+    ensures cause { IfErr result (ComesOf (L.stand link.old).counts (L.stand link.new).counts) }
 {
     if places.is_empty() {
         return Ok(Items::new(alloc));
@@ -164,6 +166,7 @@ fn conclude(
     requires offsets { All HasOffsets fetched.now }
     ensures over { IsOver round wait bound (consumer_of consumer.old) (lots_of consumer.old.assignment.items fetched.now) events result (consumer_of consumer.new) }
     ensures waits { result.reply ≡ None → 10 * round < wait }
+    ensures looks { result.reply ≡ None → EndsInLook (events_in result) round }
     ensures sound { IsSound consumer.new }
 {
     match settle(consumer, alloc, round, wait, bound, fetched, &mut events) {
@@ -185,16 +188,16 @@ fn gather_for<L: Link>(
 ) -> Result<Items<Fetched>, LinkNo>
     requires sound { IsSound consumer.old }
     requires none { events.old ≡ [] }
-    ensures passes { Passes (L.tells link.old) (L.tells link.new) (L.plain link.old) (L.plain link.new) (L.log link.old) (L.log link.new) (L.counts link.old) (L.counts link.new) }
-    ensures set { SetsBack (L.tells link.old) (edge_view consumer.old.settings.reset) (L.log link.old) (map place_of consumer.old.assignment.items) events.new (L.log link.new) (map place_of consumer.new.assignment.items) }
+    ensures passes { Passes (L.stand link.old).tells (L.stand link.new).tells (L.stand link.old).plain (L.stand link.new).plain (L.stand link.old).log (L.stand link.new).log (L.stand link.old).counts (L.stand link.new).counts }
+    ensures set { SetsBack (L.stand link.old).tells (edge_view consumer.old.settings.reset) (L.stand link.old).log (map place_of consumer.old.assignment.items) events.new (L.stand link.new).log (map place_of consumer.new.assignment.items) }
     ensures kept { IsKept consumer.old consumer.new }
     ensures sound { IsSound consumer.new }
     ensures same { IfOk result (λ fetched. length fetched ≡ length consumer.new.assignment.items) }
     ensures offsets { IfOk result (All HasOffsets) }
-    ensures hand { L.tells link.old → IsLog (L.log link.old) → IfOk result (λ fetched. IsHand (L.log link.new) (map place_of consumer.new.assignment.items) (lots_of consumer.new.assignment.items fetched)) }
+    ensures hand { (L.stand link.old).tells → IsLog (L.stand link.old).log → IfOk result (λ fetched. IsHand (L.stand link.new).log (map place_of consumer.new.assignment.items) (lots_of consumer.new.assignment.items fetched)) }
     ensures sent { OnErr result (0 < length consumer.old.assignment.items) }
-    ensures good { L.plain link.old → L.tells link.old → HaveAll (L.log link.old) (map place_of consumer.old.assignment.items) → IfErr result (λ e. e ≡ Want) }
-    ensures cause { IfErr result (ComesOf (L.counts link.old) (L.counts link.new)) }
+    ensures good { (L.stand link.old).plain → (L.stand link.old).tells → HaveAll (L.stand link.old).log (map place_of consumer.old.assignment.items) → IfErr result (λ e. e ≡ Want) }
+    ensures cause { IfErr result (ComesOf (L.stand link.old).counts (L.stand link.new).counts) }
 {
     let first = consumer.rotation;
     let edge = consumer.settings.reset;
@@ -234,14 +237,12 @@ pub(crate) fn look<L: Link>(
 ) -> Outcome
     requires sound { IsSound consumer.old }
     ensures sound { IsSound consumer.new }
-    ensures acts { (advertise : List ℕ) (key : Key) → ActsSo advertise key now round (Records [] timeout max_bytes) (L.tells link.old) (L.plain link.old) (L.counts link.old) (L.counts link.new) (consumer_of consumer.old) (L.log link.old) (events_in result) (said_in result) (L.log link.new) (consumer_of consumer.new) }
+    ensures acts { (advertise : List ℕ) (key : Key) → ActsSo advertise key now round (Records [] timeout max_bytes) (L.stand link.old).tells (L.stand link.old).plain (L.stand link.old).counts (L.stand link.new).counts (consumer_of consumer.old) (L.stand link.old).log (events_in result) (said_in result) (L.stand link.new).log (consumer_of consumer.new) }
     ensures waits { result.reply ≡ None → 10 * round < 2 ^ 32 }
+    ensures looks { result.reply ≡ None → EndsInLook (events_in result) round }
 
-    ensures telling { L.tells link.old → L.tells link.new }
-    ensures keeps { L.tells link.old → Keeps (L.log link.old) (L.log link.new) × SameCommits (L.log link.old) (L.log link.new) }
-    ensures is_log { L.tells link.old → IsLog (L.log link.old) → IsLog (L.log link.new) }
-    ensures plainly { L.plain link.old → L.plain link.new }
-    ensures alone { L.plain link.old → (L.log link.new).others ≡ (L.log link.old).others }
+    ensures goes { Goes (L.stand link.old) (L.stand link.new) }
+    ensures commits { (L.stand link.old).tells → SameCommits (L.stand link.old).log (L.stand link.new).log }
 {
     consumer.last_use = now;
     let wait = at_most(u64::from(consumer.settings.timeout_ms), timeout);

@@ -18,11 +18,11 @@ use gate_io::{Items, Text};
 use std::alloc::{AllocError, Global};
 
 fn edge_at<L: Link>(alloc: Global, link: &mut L, place: &Place, edge: Edge) -> Result<i64, LinkNo>
-    ensures passes { Passes (L.tells link.old) (L.tells link.new) (L.plain link.old) (L.plain link.new) (L.log link.old) (L.log link.new) (L.counts link.old) (L.counts link.new) }
+    ensures passes { Passes (L.stand link.old).tells (L.stand link.new).tells (L.stand link.old).plain (L.stand link.new).plain (L.stand link.old).log (L.stand link.new).log (L.stand link.old).counts (L.stand link.new).counts }
     ensures low { IfOk result (λ offset. pos 0 ≤ℤ offset) }
-    ensures told { L.tells link.old → IfOk result (IsEdge (L.log link.new) (at_in place.now) (edge_view edge)) }
-    ensures good { L.plain link.old → L.tells link.old → HasPart (L.log link.old) (at_in place.now) → IfErr result (λ e. e ≡ Want) }
-    ensures cause { IfErr result (ComesOf (L.counts link.old) (L.counts link.new)) }
+    ensures told { (L.stand link.old).tells → IfOk result (IsEdge (L.stand link.new).log (at_in place.now) (edge_view edge)) }
+    ensures good { (L.stand link.old).plain → (L.stand link.old).tells → HasPart (L.stand link.old).log (at_in place.now) → IfErr result (λ e. e ≡ Want) }
+    ensures cause { IfErr result (ComesOf (L.stand link.old).counts (L.stand link.new).counts) }
 {
     link.list_offset(alloc, place.topic.as_str(), place.partition, edge)
 }
@@ -35,12 +35,12 @@ fn tell_one<L: Link>(
     fetched: &Fetched,
     edge: Edge,
 ) -> Result<Option<i64>, LinkNo>
-    ensures passes { Passes (L.tells link.old) (L.tells link.new) (L.plain link.old) (L.plain link.new) (L.log link.old) (L.log link.new) (L.counts link.old) (L.counts link.new) }
+    ensures passes { Passes (L.stand link.old).tells (L.stand link.new).tells (L.stand link.old).plain (L.stand link.new).plain (L.stand link.old).log (L.stand link.new).log (L.stand link.old).counts (L.stand link.new).counts }
     ensures same { IfOk result (λ told. is_some told ≡ fetched.now.out_of_range) }
     ensures low { IfOk result IsLowIf }
-    ensures told { L.tells link.old → IfOk result (IsEdgeIf (L.log link.new) (at_in place.now) (edge_view edge)) }
-    ensures good { L.plain link.old → L.tells link.old → HasPart (L.log link.old) (at_in place.now) → IfErr result (λ e. e ≡ Want) }
-    ensures cause { IfErr result (ComesOf (L.counts link.old) (L.counts link.new)) }
+    ensures told { (L.stand link.old).tells → IfOk result (IsEdgeIf (L.stand link.new).log (at_in place.now) (edge_view edge)) }
+    ensures good { (L.stand link.old).plain → (L.stand link.old).tells → HasPart (L.stand link.old).log (at_in place.now) → IfErr result (λ e. e ≡ Want) }
+    ensures cause { IfErr result (ComesOf (L.stand link.old).counts (L.stand link.new).counts) }
 {
     if !fetched.out_of_range {
         return Ok(None);
@@ -60,13 +60,13 @@ fn tell_edges<L: Link>(
     edge: Edge,
 ) -> Result<Items<Option<i64>>, LinkNo>
     requires same { length fetched.now ≡ length places.now }
-    ensures passes { Passes (L.tells link.old) (L.tells link.new) (L.plain link.old) (L.plain link.new) (L.log link.old) (L.log link.new) (L.counts link.old) (L.counts link.new) }
+    ensures passes { Passes (L.stand link.old).tells (L.stand link.new).tells (L.stand link.old).plain (L.stand link.new).plain (L.stand link.old).log (L.stand link.new).log (L.stand link.old).counts (L.stand link.new).counts }
     ensures same { IfOk result (λ told. length told ≡ length places.now) }
     ensures are { IfOk result (λ told. AreTold fetched.now told) }
     ensures low { IfOk result (λ told. All IsLowIf told) }
-    ensures told { L.tells link.old → IsLog (L.log link.old) → IfOk result (λ told. EdgesTold (edge_view edge) (L.log link.old) (map place_of places.now) told (L.log link.new)) }
-    ensures good { L.plain link.old → L.tells link.old → HaveAll (L.log link.old) (map place_of places.now) → IfErr result (λ e. e ≡ Want) }
-    ensures cause { IfErr result (ComesOf (L.counts link.old) (L.counts link.new)) }
+    ensures told { (L.stand link.old).tells → IsLog (L.stand link.old).log → IfOk result (λ told. EdgesTold (edge_view edge) (L.stand link.old).log (map place_of places.now) told (L.stand link.new).log) }
+    ensures good { (L.stand link.old).plain → (L.stand link.old).tells → HaveAll (L.stand link.old).log (map place_of places.now) → IfErr result (λ e. e ≡ Want) }
+    ensures cause { IfErr result (ComesOf (L.stand link.old).counts (L.stand link.new).counts) }
 {
     let mut told = Items::new(alloc);
     for i in 0..places.len() {
@@ -147,12 +147,12 @@ pub(crate) fn set_back<L: Link>(
     edge: Edge,
 ) -> Result<Items<Event>, LinkNo>
     requires same { length fetched.now ≡ length places.old }
-    ensures passes { Passes (L.tells link.old) (L.tells link.new) (L.plain link.old) (L.plain link.new) (L.log link.old) (L.log link.new) (L.counts link.old) (L.counts link.new) }
-    ensures set { IfOk result (λ events. AreSet (L.tells link.old) (edge_view edge) (L.log link.old) (map place_of places.old) fetched.now events (L.log link.new) (map place_of places.new)) }
+    ensures passes { Passes (L.stand link.old).tells (L.stand link.new).tells (L.stand link.old).plain (L.stand link.new).plain (L.stand link.old).log (L.stand link.new).log (L.stand link.old).counts (L.stand link.new).counts }
+    ensures set { IfOk result (λ events. AreSet (L.stand link.old).tells (edge_view edge) (L.stand link.old).log (map place_of places.old) fetched.now events (L.stand link.new).log (map place_of places.new)) }
     ensures stays { OnErr result (places.new ≡ places.old) }
     ensures kept { IsLow (map place_of places.old) → IsLow (map place_of places.new) }
-    ensures good { L.plain link.old → L.tells link.old → HaveAll (L.log link.old) (map place_of places.old) → IfErr result (λ e. e ≡ Want) }
-    ensures cause { IfErr result (ComesOf (L.counts link.old) (L.counts link.new)) }
+    ensures good { (L.stand link.old).plain → (L.stand link.old).tells → HaveAll (L.stand link.old).log (map place_of places.old) → IfErr result (λ e. e ≡ Want) }
+    ensures cause { IfErr result (ComesOf (L.stand link.old).counts (L.stand link.new).counts) }
 {
     let told = tell_edges(alloc, link, places, fetched, edge)?;
     let events = reset_events(alloc, places, told.as_slice())?;

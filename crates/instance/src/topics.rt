@@ -77,10 +77,10 @@ fn check_topic<L: Link>(
     topic: &str,
     parts: &[TopicPart],
 ) -> Result<(), AssignNo>
-    ensures goes { GoesOn (L.tells link.old) (L.tells link.new) (L.plain link.old) (L.plain link.new) (L.log link.old) (L.log link.new) }
-    ensures caused { IsCaused (L.counts link.old) (L.counts link.new) result }
-    ensures code { L.tells link.old → IsLog (L.log link.old) → FitsCode (topic_code (L.log link.old) (map at_of parts.now) topic.now) result }
-    ensures good { L.plain link.old → IfErr result (λ no. IsGood (refusal_of no)) }
+    ensures goes { GoesOn (L.stand link.old).tells (L.stand link.new).tells (L.stand link.old).plain (L.stand link.new).plain (L.stand link.old).log (L.stand link.new).log }
+    ensures caused { IsCaused (L.stand link.old).counts (L.stand link.new).counts result }
+    ensures code { (L.stand link.old).tells → IsLog (L.stand link.old).log → FitsCode (topic_code (L.stand link.old).log (map at_of parts.now) topic.now) result }
+    ensures good { (L.stand link.old).plain → IfErr result (λ no. IsGood (refusal_of no)) }
 {
     let infos = link.metadata(alloc, Some(topic))?;
     let Some(count) = first_count(infos.as_slice()) else {
@@ -100,10 +100,10 @@ fn check_place<L: Link>(
     place: usize,
 ) -> Result<(), AssignNo>
     requires within { place < length parts.now }
-    ensures goes { GoesOn (L.tells link.old) (L.tells link.new) (L.plain link.old) (L.plain link.new) (L.log link.old) (L.log link.new) }
-    ensures caused { IsCaused (L.counts link.old) (L.counts link.new) result }
-    ensures code { L.tells link.old → IsLog (L.log link.old) → Pass (L.log link.old) (map at_of parts.now) (take place (map at_of parts.now)) → FitsNext (L.log link.old) (map at_of parts.now) place result }
-    ensures good { L.plain link.old → IfErr result (λ no. IsGood (refusal_of no)) }
+    ensures goes { GoesOn (L.stand link.old).tells (L.stand link.new).tells (L.stand link.old).plain (L.stand link.new).plain (L.stand link.old).log (L.stand link.new).log }
+    ensures caused { IsCaused (L.stand link.old).counts (L.stand link.new).counts result }
+    ensures code { (L.stand link.old).tells → IsLog (L.stand link.old).log → Pass (L.stand link.old).log (map at_of parts.now) (take place (map at_of parts.now)) → FitsNext (L.stand link.old).log (map at_of parts.now) place result }
+    ensures good { (L.stand link.old).plain → IfErr result (λ no. IsGood (refusal_of no)) }
 {
     let topic = parts[place].topic.as_str();
     if is_named(&parts[..place], topic) {
@@ -119,10 +119,10 @@ pub(crate) fn check_topics<L: Link>(
     link: &mut L,
     parts: &[TopicPart],
 ) -> Result<(), AssignNo>
-    ensures goes { GoesOn (L.tells link.old) (L.tells link.new) (L.plain link.old) (L.plain link.new) (L.log link.old) (L.log link.new) }
-    ensures caused { IsCaused (L.counts link.old) (L.counts link.new) result }
-    ensures code { L.tells link.old → IsLog (L.log link.old) → FitsCode (lacking (L.log link.old) (map at_of parts.now) (map at_of parts.now)) result }
-    ensures good { L.plain link.old → IfErr result (λ no. IsGood (refusal_of no)) }
+    ensures goes { GoesOn (L.stand link.old).tells (L.stand link.new).tells (L.stand link.old).plain (L.stand link.new).plain (L.stand link.old).log (L.stand link.new).log }
+    ensures caused { IsCaused (L.stand link.old).counts (L.stand link.new).counts result }
+    ensures code { (L.stand link.old).tells → IsLog (L.stand link.old).log → FitsCode (lacking (L.stand link.old).log (map at_of parts.now) (map at_of parts.now)) result }
+    ensures good { (L.stand link.old).plain → IfErr result (λ no. IsGood (refusal_of no)) }
 {
     for place in 0..parts.len() {
         check_place(alloc, link, parts, place)?;

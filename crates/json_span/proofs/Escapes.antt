@@ -1,8 +1,9 @@
 -- What escapes stand for, by the bytes behind a backslash.
-use Rattle.std.proofs.Common.{◌≡◌, ℕ, ◌+◌, ◌<◌, ◌≤◌, List, [], ◌∷◌, ◌++◌, length, drop, get_or, true, false, cond, ◌==◌, refl, sym, ap, ◌∙◌, append_assoc, arith}
+use Rattle.std.proofs.Common.{◌≡◌, ℕ, ◌+◌, ◌<◌, ◌≤◌, List, [], ◌∷◌, ◌++◌, length, take, drop, get_or, true, false, cond, ◌==◌, refl, sym, ap, ◌∙◌, append_assoc, arith}
 use Rattle.std.proofs.lemmas.Bool.Decides.{nat_tests}
-use Rattle.std.proofs.lemmas.List.{drop_more, drop-drop, append-nil, drop_all}
-use Rattle.json_span.specs.Chars.{content, content_behind, backslash, letter_u, high, short_escape, code_unit, pair_of, is_high, char_bytes}
+use Rattle.std.proofs.lemmas.List.{drop_more, drop-drop, append-nil, drop_all, take-append-drop}
+use Rattle.json_span.specs.Chars.{content, content_behind, backslash, letter_u, high, short_escape, code_unit, pair_of, is_high, char_bytes, has_backslash}
+use Rattle.json_span.proofs.CharWalks.{neither}
 
 pub unit_short : (s : List ℕ) → length s < 4 → content_behind letter_u s ≡ []
 unfolding content_behind
@@ -113,5 +114,24 @@ turn_other out now s at x h e n i f =
     let d : (get_or s at 0 == 92) ≡ false = let z : (get_or s at 0 ≡ 92 → ⊥) = λ y. n (e ∙ y) in grind (arith, nat_tests) in
     join_after out now (x ∷ []) (content (drop (at + 1) s)) (content (drop at s)) f (content_other s at h d ∙ ap (λ y. y ∷ content (drop (at + 1) s)) (sym e)) ∙ i
 
+-- bytes without a backslash stand for themselves
+content_own : (r t : List ℕ) → has_backslash r ≡ false → content (r ++ t) ≡ r ++ content t
+unfolding content_behind
+content_own [] t e = refl
+content_own (x ∷ r) t e =
+    let h = neither (x == 92) (has_backslash r) e in
+    ap (λ y. cond y (content_behind backslash (r ++ t)) (x ∷ content (r ++ t))) h.0 ∙ ap (λ y. x ∷ y) (content_own r t h.1)
+
+-- a run up to the next backslash
+pub turn_run : (out now s : List ℕ) (at run m : ℕ) → m ≡ run → has_backslash (take run (drop at s)) ≡ false → now ≡ out ++ take m (drop at s) → out ++ content (drop at s) ≡ content s → now ++ content (drop (at + run) s) ≡ content s
+turn_run out now s at run m k n e i =
+    let w = drop at s in
+    let split : content w ≡ take run w ++ content (drop (at + run) s) = ap content (sym (take-append-drop run w)) ∙ (content_own (take run w) (drop run w) n ∙ ap (λ x. take run w ++ content x) (drop-drop run at s)) in
+    join_after out now (take run w) (content (drop (at + run) s)) (content w) (e ∙ ap (λ x. out ++ take x w) k) split ∙ i
+
 pub turns_end : (out s : List ℕ) (at : ℕ) → length s ≤ at → out ++ content (drop at s) ≡ content s → out ≡ content s
 turns_end out s at h i = sym (append-nil out) ∙ (ap (λ x. out ++ x) (sym (content_all s at h)) ∙ i)
+
+-- the run is the last one
+pub run_ends : (out now s : List ℕ) (at run m : ℕ) → m ≡ run → has_backslash (take run (drop at s)) ≡ false → now ≡ out ++ take m (drop at s) → out ++ content (drop at s) ≡ content s → at + run ≡ length s → now ≡ content s
+run_ends out now s at run m k n e i h = turns_end now s (at + run) (omega arith) (turn_run out now s at run m k n e i)

@@ -10,6 +10,8 @@ pub mod Lifts
 pub mod Turns
 pub mod Escapes
 pub mod Utf8Lemmas
+pub mod ContentLemmas
 pub mod Lookups
 pub mod Digits
+pub mod MemberLemmas
 pub mod NumberGrammar

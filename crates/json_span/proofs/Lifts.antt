@@ -13,8 +13,8 @@ use Rattle.json_span.specs.declared.tree.Node.{Node}
 use Rattle.json_span.specs.declared.tree.Member.{Member}
 use Rattle.json_span.specs.declared.tree.Form.{Form}
 use Rattle.json_span.specs.declared.tree.Form.TheVariants.{Null, Bool as Flag, Number}
-use Rattle.json_span.specs.declared.reader.Open.{Open}
-use Rattle.json_span.specs.declared.reader.Open.TheVariants.{InArray, InObject}
+use Rattle.json_span.specs.declared.state.Open.{Open}
+use Rattle.json_span.specs.declared.state.Open.TheVariants.{InArray, InObject}
 use Rattle.json_span.specs.declared.error.JsonNo.{JsonNo}
 use Rattle.json_span.specs.declared.error.JsonNo.TheVariants.{BadByte, Cut, TooDeep, Want}
 use Rattle.json_span.proofs.AheadLemmas.{Value-tokens, tokens-Value}

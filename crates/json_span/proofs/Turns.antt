@@ -6,6 +6,8 @@ use Rattle.json_span.proofs.Lookups.{node_inside}
 use Rattle.std.proofs.lemmas.Bool.{false≢true}
 use Rattle.std.proofs.lemmas.Bool.Decides.{nat_tests}
 use Rattle.std.proofs.lemmas.List.{append-nil, take_at, length-append, drop-drop, same_from_push, take-append-drop}
+use Rattle.std.proofs.Math.Seq.{set-append_seam, get_or-append_seam}
+use Rattle.std.proofs.Math.ListN.{set}
 use Rattle.std.proofs.lemmas.List.Concat.{flat_map-append}
 use Rattle.json_span.specs.Json.{Json, Items, Members, null, boolean, number, text, array, object, no_items, item, no_members, member, Token, end_array, end_object, comma, quoted, tokens, item_tokens, more_item_tokens, member_tokens, more_member_tokens}
 use Rattle.json_span.specs.Text.{is_blank, spelled, compact, IsText}
@@ -14,17 +16,17 @@ use Rattle.json_span.specs.Refusals.{Refuses}
 use Rattle.json_span.specs.Ahead.{Frame, in_array, in_object, join_items, join_members, AfterAt, Expect, FirstNameAt, NextNameAt, ColonAt}
 use Rattle.json_span.specs.Reading.{ReadsTo}
 use Rattle.json_span.specs.Tree.{IsRead, StandsIn, ItemsIn, MembersIn, IsNode, AreTokens, items_of, members_of}
-use Rattle.json_span.specs.Steps.{WordTo, WordFails, Adds, At, then_after, begins_number, AtAny, AtValue, AtEnd, AtName, NamedTo, BehindItem, BehindMember, BehindOpen, Skips, QuotedTo, QuotedFails, Holds, HoldsOne, opened, listed, named, quote}
+use Rattle.json_span.specs.Steps.{WordTo, WordFails, Adds, At, then_after, begins_number, AtAny, AtValue, AtEnd, AtName, NamedTo, BehindItem, BehindMember, BehindOpen, AddsItem, PushesItem, Skips, QuotedTo, QuotedFails, Holds, HoldsOne, opened, listed, named, quote}
 use Rattle.json_span.specs.declared.tree.Node.{Node}
 use Rattle.json_span.specs.declared.tree.Member.{Member}
 use Rattle.json_span.specs.declared.tree.Form.{Form}
-use Rattle.json_span.specs.declared.reader.Open.{Open}
-use Rattle.json_span.specs.declared.reader.Open.TheVariants.{InArray, InObject}
+use Rattle.json_span.specs.declared.state.Open.{Open}
+use Rattle.json_span.specs.declared.state.Open.TheVariants.{InArray, InObject}
 use Rattle.json_span.specs.declared.error.JsonNo.{JsonNo}
 use Rattle.json_span.specs.declared.error.JsonNo.TheVariants.{BadByte, Cut, TooDeep, Want}
 use Rattle.json_span.proofs.AheadLemmas.{FirstName-tokens, tokens-FirstName, NextName-tokens, name-NextName}
 use Rattle.std.specs.Result.{IfOk, IfErr}
-use Rattle.json_span.specs.declared.reader.Next.{Next}
+use Rattle.json_span.specs.declared.state.Next.{Next}
 use Rattle.json_span.proofs.BytesLemmas.{class}
 use Rattle.json_span.proofs.States.{expect_values, open_array, open_object, deep_array, deep_object, close_empty_array, next_item, close_array, next_member, close_object, close_empty_object, after_colon, bad_value, bad_close, bad_item, bad_member, bad_end, bad_first_name, bad_next_name, bad_colon, cut_value, cut_item, cut_member, cut_first_name, cut_next_name, cut_colon, item_codes, member_codes, first_name_codes, value_codes, alive_first_name, alive_next_name, ReadsTo-start, whole_value, only_value}
 use Rattle.json_span.proofs.StepsLemmas.{byte_first, no_bytes}
@@ -534,6 +536,51 @@ end_pops bytes place node nodes source opens outer o a e = from a.frames a.reads
         let O : Open → Type 0 = λ y. HoldsOne nodes source (length (opened frames)) y f in
         let P : List Open → Type 0 = λ y. Holds nodes source y frames in
         behind frames f o r (subst O same.1 hs.3) (subst P same.0 hs.4) t (omega arith)
+
+-- ---- an item put in place
+
+record Split (xs : List Open) : Type 0 where
+  outer : List Open
+  o : Open
+  is : xs ≡ outer ++ (o ∷ [])
+
+split_last : (x : Open) (xs : List Open) → Split (x ∷ xs)
+split_last x [] = record { outer = []; o = x; is = refl }
+split_last x (y ∷ ys) = let s = split_last y ys in record { outer = x ∷ s.outer; o = s.o; is = ap (λ z. x ∷ z) s.is }
+
+split_some : (xs : List Open) → 0 < length xs → Split xs
+split_some [] h = absurd (omega arith)
+split_some (x ∷ xs) h = split_last x xs
+
+pub pushed : (node n : ℕ) (opens : List Open) (top new : Open) (r : Result Bool JsonNo) → n ≡ length opens → 0 < n → top ≡ get_or opens (n - 1) top → IfOk r (AddsItem node top new) → IfOk r (PushesItem node opens (set opens (n - 1) new))
+pushed node n opens top new (Err e) k l t h = tt
+pushed node n opens top new (Ok done) k l t h = from done (split_some opens (omega arith)) h
+  where
+    from : (done : Bool) → Split opens → AddsItem node top new done → PushesItem node opens (set opens (n - 1) new) done
+    from done s a =
+        let size : n - 1 ≡ length s.outer = let z = ap length s.is ∙ length-append s.outer (s.o ∷ []) in omega arith in
+        let last : top ≡ s.o = t ∙ ((λ i. get_or (s.is i) (size i) top) ∙ get_or-append_seam s.outer s.o [] top) in
+        let after : (x : Open) → set opens (n - 1) x ≡ s.outer ++ (x ∷ []) = λ x. (λ i. set (s.is i) (size i) x) ∙ set-append_seam s.outer s.o [] x in
+        pick done (s.is ∙ ap (λ x. s.outer ++ (x ∷ [])) (sym last)) after a
+      where
+        pick : (done : Bool) → opens ≡ s.outer ++ (top ∷ []) → ((x : Open) → set opens (n - 1) x ≡ s.outer ++ (x ∷ [])) → AddsItem node top new done → PushesItem node opens (set opens (n - 1) new) done
+        pick true e f a = (s.outer, top, new, e, f new, a)
+        pick false e f a = ap (λ x. set opens (n - 1) x) a ∙ (f top ∙ sym e)
+
+-- nothing was done
+pub end_same : (bytes : List ℕ) (place node : ℕ) (nodes : List Node) (source now : List ℕ) (opens new : List Open) → now ≡ source → new ≡ opens → AtEnd bytes place node nodes source opens → AtEnd bytes place node nodes now new
+end_same bytes place node nodes source now opens new e f a =
+    let P : List ℕ → Type 0 = λ x. AtEnd bytes place node nodes x new in
+    let Q : List Open → Type 0 = λ x. AtEnd bytes place node nodes source x in
+    subst P (sym e) (subst Q (sym f) a)
+
+pub item_placed : (bytes : List ℕ) (place node at : ℕ) (nodes : List Node) (source now : List ℕ) (opens new : List Open) → Skips bytes place at → at < length bytes → get_or bytes at 0 ≡ 44 → now ≡ source ++ (44 ∷ []) → PushesItem node opens new true → AtEnd bytes place node nodes source opens → AtValue bytes (at + 1) false nodes now new
+item_placed bytes place node at nodes source now opens new s l c e (outer, o, p, is, is_now, add) a = from o p is is_now add
+  where
+    from : (o p : Open) → opens ≡ outer ++ (o ∷ []) → new ≡ outer ++ (p ∷ []) → AddsItem node o p true → AtValue bytes (at + 1) false nodes now new
+    from (InArray begins v) (InArray again w) i j d = item_follows bytes place begins at w.items nodes source now outer new (InArray again w) (end_pops bytes place node nodes source opens outer (InArray begins v) a i w.items d.1) s l c e j (λ x y. (d.0 ∙ x, y))
+    from (InArray begins v) (InObject again w name) i j d = absurd d
+    from (InObject begins v name) q i j d = absurd d
 
 -- ---- the end of the text
 

@@ -19,9 +19,9 @@ use Rattle.json_span.specs.declared.chars.Inside.{Inside}
 use Rattle.json_span.specs.declared.chars.Inside.TheVariants.{Plain, Tail1, Tail2, Tail3, AfterE0, AfterEd, AfterF0, AfterF4, Escape, Unit4, Unit3, Unit2, Unit1, UnitD, High2, High1, LowSlash, LowU, LowD, LowC}
 
 -- a byte behind a first one
-record Tail (x : ℕ) : Type 0 where
-  low : 128 ≤ x
-  high : x < 192
+pub record Tail (x : ℕ) : Type 0 where
+  pub low : 128 ≤ x
+  pub high : x < 192
 
 char_utf8 : (c : ℕ) (bs : List ℕ) → scalar c ≡ true → encode c ≡ bs → IsUtf8 bs
 char_utf8 c bs s e = let P : List ℕ → Type 0 = λ x. IsUtf8 x in subst P e (IsUtf8-encode c s)
@@ -81,7 +81,7 @@ four b x y z h k t s n m o =
     char_utf8 c _ (high_scalar c (omega arith) (omega arith)) (encode_four c (omega arith) ∙ (λ i. p i ∷ (q i ∷ (r i ∷ (f i ∷ [])))))
 
 -- what the bytes so far want to be UTF-8
-abbrev Pending : Inside → List ℕ → Type 0
+abbrev pub Pending : Inside → List ℕ → Type 0
 Pending Tail1 p = (x : ℕ) → Tail x → IsUtf8 (p ++ (x ∷ []))
 Pending Tail2 p = (x y : ℕ) → Tail x → Tail y → IsUtf8 (p ++ (x ∷ (y ∷ [])))
 Pending Tail3 p = (x y z : ℕ) → Tail x → Tail y → Tail z → IsUtf8 (p ++ (x ∷ (y ∷ (z ∷ []))))
@@ -104,21 +104,21 @@ Pending LowD p = IsUtf8 p
 Pending LowC p = IsUtf8 p
 
 -- the place that a test leads to
-chosen : (t : Bool) (x y : Option Inside) (r : Inside) → cond t x y ≡ Some r → ((t ≡ true) × (x ≡ Some r)) ⊎ ((t ≡ false) × (y ≡ Some r))
+pub chosen : (t : Bool) (x y : Option Inside) (r : Inside) → cond t x y ≡ Some r → ((t ≡ true) × (x ≡ Some r)) ⊎ ((t ≡ false) × (y ≡ Some r))
 chosen true x y r e = inl (refl, e)
 chosen false x y r e = inr (refl, e)
 
-gone : (t : Bool) (to r : Inside) → goes t to ≡ Some r → (t ≡ true) × (to ≡ r)
+pub gone : (t : Bool) (to r : Inside) → goes t to ≡ Some r → (t ≡ true) × (to ≡ r)
 gone true to r e = (refl, cc)
 gone false to r e = absurd cc
 
 to_place : (q r : Inside) (p : List ℕ) → q ≡ r → Pending q p → Pending r p
 to_place q r p e h = let P : Inside → Type 0 = λ x. Pending x p in subst P e h
 
-utf8_along : (xs ys : List ℕ) → xs ≡ ys → IsUtf8 xs → IsUtf8 ys
+pub utf8_along : (xs ys : List ℕ) → xs ≡ ys → IsUtf8 xs → IsUtf8 ys
 utf8_along xs ys e h = let P : List ℕ → Type 0 = λ x. IsUtf8 x in subst P e h
 
-push_ascii : (p : List ℕ) (b : ℕ) → IsUtf8 p → b < 128 → IsUtf8 (p ++ (b ∷ []))
+pub push_ascii : (p : List ℕ) (b : ℕ) → IsUtf8 p → b < 128 → IsUtf8 (p ++ (b ∷ []))
 push_ascii p b h l = IsUtf8-append p (b ∷ []) h (ascii b l)
 
 tail_of : (b : ℕ) → within 128 191 b ≡ true → Tail b
@@ -136,7 +136,7 @@ test_lt b n e = grind (arith, nat_tests)
 test_ge : (b n : ℕ) → nat_lt b n ≡ false → n ≤ b
 test_ge b n e = grind (arith, nat_tests)
 
-test_eq : (b n : ℕ) → (b == n) ≡ true → b ≡ n
+pub test_eq : (b n : ℕ) → (b == n) ≡ true → b ≡ n
 test_eq b n e = grind (arith, nat_tests)
 
 test_ne : (b n : ℕ) → (b == n) ≡ false → b ≡ n → ⊥
@@ -213,7 +213,7 @@ plain_pending p b r h e = control (chosen _ _ _ r e)
 narrow_step : (p : List ℕ) (b : ℕ) (t : Bool) (q r : Inside) → IsUtf8 p → goes t q ≡ Some r → (t ≡ true → b < 128) → (IsUtf8 (p ++ (b ∷ [])) → Pending q (p ++ (b ∷ []))) → Pending r (p ++ (b ∷ []))
 narrow_step p b t q r h e l f = let g = gone t q r e in to_place q r _ g.1 (f (push_ascii p b h (l g.0)))
 
-step_pending : (m r : Inside) (p : List ℕ) (b : ℕ) → Pending m p → next_inside m b ≡ Some r → Pending r (p ++ (b ∷ []))
+pub step_pending : (m r : Inside) (p : List ℕ) (b : ℕ) → Pending m p → next_inside m b ≡ Some r → Pending r (p ++ (b ∷ []))
 unfolding next_inside
 step_pending Plain r p b h e = plain_pending p b r h e
 step_pending Tail1 r p b h e = let g = gone _ Plain r e in to_place Plain r _ g.1 (h b (tail_of b g.0))

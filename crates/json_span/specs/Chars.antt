@@ -1,6 +1,7 @@
 -- What stands between the quotes of a string (RFC 8259, section 7), in UTF-8 (RFC 3629, section 4), as a right-linear
 -- grammar: each place says which byte may come next. The escape of a surrogate stands only in a pair.
 use Rattle.std.specs.Prelude.{◌≡◌, ℕ, ◌+◌, ◌-◌, ◌*◌, List, [], ◌∷◌, ◌++◌, Bool, cond, ◌==◌, nat_lt, nat_le, ◌&&◌, ◌||◌, Option, Some, None}
+use Rattle.std.specs.List.{list_any}
 use Rattle.std.specs.Char.{digit_value, encode_utf8}
 use lib.Utf8.{scalar}
 use Rattle.json_span.specs.declared.chars.Inside.{Inside}
@@ -41,6 +42,14 @@ after_lead b =
 -- a character: no control, no quote
 abbrev pub after_plain : ℕ → Option Inside
 after_plain b = cond (nat_lt b 32) None (cond (b == 34) None (cond (b == 92) (Some Escape) (cond (nat_lt b 128) (Some Plain) (after_lead b))))
+
+-- a byte that stands for itself: printable ASCII but the quote and the backslash
+abbrev pub is_plain : ℕ → Bool
+is_plain b = within 32 33 b || (within 35 91 b || within 93 127 b)
+
+-- whether a backslash is among the bytes
+abbrev pub has_backslash : List ℕ → Bool
+has_backslash s = list_any (λ b. b == 92) s
 
 -- the place after the byte b
 unfoldable pub next_inside : Inside → ℕ → Option Inside

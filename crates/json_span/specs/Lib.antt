@@ -9,5 +9,6 @@ pub mod Reading
 pub mod Tree
 pub mod Steps
 pub mod Nodes
+pub mod Parts
 pub mod Integer
 pub mod Grammar

@@ -1,5 +1,5 @@
 -- How far a number or the bytes of a string go (RFC 8259, sections 6 and 7). Only private clauses cite it.
-use Rattle.std.specs.Prelude.{◌≡◌, ℕ, ◌<◌, ◌≤◌, List, [], ◌∷◌, length, take, drop, get_or, true, false, None, ⊤}
+use Rattle.std.specs.Prelude.{◌≡◌, ℕ, ◌<◌, ◌≤◌, List, [], ◌∷◌, length, take, drop, get_or, Bool, true, false, None, ⊤}
 use Rattle.json_span.specs.declared.scan.Scan.{Scan}
 use Rattle.json_span.specs.declared.scan.Scan.TheVariants.{End, Bad, Short}
 use Rattle.json_span.specs.declared.number.Part.{Part}
@@ -58,3 +58,9 @@ abbrev pub ScansChars : List ℕ → Scan → Type 0
 ScansChars bytes (End n) = EndsChars bytes n
 ScansChars bytes (Bad n) = BreaksChars bytes n
 ScansChars bytes Short = CutsChars bytes
+
+-- only where the mark is set, a backslash is among the characters up to the end
+abbrev pub MarksEscapes : List ℕ → Scan → Bool → Type 0
+MarksEscapes bytes (End n) marked = marked ≡ false → chars.has_backslash (take n bytes) ≡ false
+MarksEscapes bytes (Bad n) marked = ⊤
+MarksEscapes bytes Short marked = ⊤

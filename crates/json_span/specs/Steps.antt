@@ -1,6 +1,6 @@
 -- Where the reader of a JSON text stands between two bytes: what was read, and what the open arrays and objects hold.
 -- Only private clauses cite it.
-use Rattle.std.specs.Prelude.{◌≡◌, ℕ, suc, ◌+◌, ◌<◌, ◌≤◌, List, [], ◌∷◌, ◌++◌, length, drop, get_or, Bool, true, false, ◌||◌, ◌==◌, None, Result, Ok, Err, ◌⊎◌, ⊤}
+use Rattle.std.specs.Prelude.{◌≡◌, ℕ, suc, ◌+◌, ◌<◌, ◌≤◌, List, [], ◌∷◌, ◌++◌, length, drop, get_or, Bool, true, false, ◌||◌, ◌==◌, Option, Some, None, Result, Ok, Err, ◌⊎◌, ⊤}
 use Rattle.json_span.specs.Json.{Json, Items, Members, no_items, item, no_members, member}
 use Rattle.json_span.specs.Text.{compact, AreBlank, is_blank}
 use Rattle.json_span.specs.Chars.{content, IsChars, next_inside}
@@ -20,10 +20,10 @@ use Rattle.json_span.specs.Tree.{StandsIn, ItemsIn, MembersIn}
 use Rattle.json_span.specs.declared.tree.Node.{Node}
 use Rattle.json_span.specs.declared.tree.Member.{Member}
 use Rattle.json_span.specs.declared.tree.Form.{Form}
-use Rattle.json_span.specs.declared.reader.Open.{Open}
-use Rattle.json_span.specs.declared.reader.Open.TheVariants.{InArray, InObject}
-use Rattle.json_span.specs.declared.reader.Next.{Next}
-use Rattle.json_span.specs.declared.reader.Next.TheVariants.{Value, After}
+use Rattle.json_span.specs.declared.state.Open.{Open}
+use Rattle.json_span.specs.declared.state.Open.TheVariants.{InArray, InObject}
+use Rattle.json_span.specs.declared.state.Next.{Next}
+use Rattle.json_span.specs.declared.state.Next.TheVariants.{Value, After}
 
 -- the bytes of a name or a text with its quotes
 abbrev pub quote : List ℕ → List ℕ
@@ -221,6 +221,23 @@ pub record Adds (old new : List Node) (source more : List ℕ) (form : Form) (so
   pub node : k ≡ length old
   pub nodes : new ≡ old ++ (record { start = length source; end = length source + length more; form = form } ∷ [])
   pub source_is : source_now ≡ source ++ more
+
+-- an open array has the node as an item more, or an object is as it was
+abbrev pub AddsItem : ℕ → Open → Open → Bool → Type 0
+AddsItem node (InArray begins v) (InArray at w) true = (at ≡ begins) × (w.items ≡ v.items ++ (node ∷ []))
+AddsItem node (InArray begins v) (InObject at w name) true = ⊥
+AddsItem node (InObject begins v name) new true = ⊥
+AddsItem node old new false = new ≡ old
+
+-- the node was put behind the items of the innermost array, or nothing was done
+abbrev pub PushesItem : ℕ → List Open → List Open → Bool → Type 0
+PushesItem node old new true = (outer : List Open) × (o p : Open) × (old ≡ outer ++ (o ∷ [])) × (new ≡ outer ++ (p ∷ [])) × AddsItem node o p true
+PushesItem node old new false = new ≡ old
+
+-- the item and a comma are behind the reader, or nothing was done
+abbrev pub ItemFollows : List ℕ → ℕ → ℕ → List ℕ → List ℕ → List Open → List Open → Option ℕ → Type 0
+ItemFollows bytes place node source now opens new (Some at) = (place < at) × ((nodes : List Node) → AtEnd bytes place node nodes source opens → AtValue bytes at false nodes now new)
+ItemFollows bytes place node source now opens new None = (now ≡ source) × (new ≡ opens)
 
 -- an item of the innermost array was read, and its node is behind those of the others
 pub record BehindItem (bytes : List ℕ) (place start : ℕ) (items : List ℕ) (nodes : List Node) (source : List ℕ) (opens : List Open) : Type 0 where

@@ -1,6 +1,8 @@
-ghost use Rattle.std.specs.Prelude.{◌≡◌};
-ghost use Rattle.json_span.specs.Chars.{within, is_hex, is_d, is_c_to_f, is_8_to_b, is_short, after_lead, after_plain, next_inside, goes};
-ghost use Rattle.json_span.specs.Scans.{ScansChars};
+ghost use Rattle.std.specs.Prelude.{◌≡◌, ◌≤◌, length, take, true, false};
+ghost use Rattle.std.specs.List.{list_all};
+ghost use Rattle.json_span.specs.Chars.{within, is_hex, is_d, is_c_to_f, is_8_to_b, is_short, after_lead, after_plain, next_inside, goes, is_plain, has_backslash, Leads};
+ghost use Rattle.json_span.specs.Scans.{ScansChars, MarksEscapes};
+ghost use Rattle.json_span.specs.declared.chars.Inside.{Inside};
 
 use crate::scan::Scan;
 
@@ -129,19 +131,92 @@ fn next_inside(inside: Inside, byte: u8) -> Option<Inside>
     }
 }
 
-/// How far the bytes of a string go, up to its closing quote.
-pub(crate) fn chars_end(bytes: &[u8]) -> Scan
-    ensures { ScansChars bytes.now result }
+/// A byte that stands for itself: printable ASCII but the quote and the backslash.
+fn is_plain(byte: u8) -> bool
+    ensures { result ≡ is_plain byte }
+{
+    within(32, 33, byte) || within(35, 91, byte) || within(93, 127, byte)
+}
+
+/// Whether each byte is plain, without a branch for each.
+fn are_plain(bytes: &[u8]) -> bool
+    ensures { result ≡ list_all is_plain bytes.now }
+{
+    let mut plain = true;
+    for byte in bytes {
+        plain = plain & is_plain(*byte);
+    }
+    plain
+}
+
+/// How many bytes at the front are plain, by blocks of 16.
+fn plain_blocks(bytes: &[u8]) -> usize
+    ensures inside { result ≤ length bytes.now }
+    ensures plain { list_all is_plain (take result bytes.now) ≡ true }
+{
+    let mut at = 0;
+    while bytes.len() - at >= 16 && are_plain(&bytes[at..at + 16]) {
+        at += 16;
+    }
+    at
+}
+
+/// How many bytes at the front are plain.
+fn plain_count(bytes: &[u8]) -> usize
+    ensures inside { result ≤ length bytes.now }
+    ensures plain { list_all is_plain (take result bytes.now) ≡ true }
+{
+    let mut at = plain_blocks(bytes);
+    while at < bytes.len() && is_plain(bytes[at]) {
+        at += 1;
+    }
+    at
+}
+
+/// How many bytes at the front are plain, told at the first byte where it is none.
+fn plain_run(bytes: &[u8]) -> usize
+    ensures inside { result ≤ length bytes.now }
+    ensures plain { list_all is_plain (take result bytes.now) ≡ true }
+{
+    if bytes.len() == 0 || !is_plain(bytes[0]) {
+        return 0;
+    }
+    plain_count(bytes)
+}
+
+/// Passes over the plain bytes at the place, where one may come.
+fn plain_end(inside: Inside, bytes: &[u8], place: usize) -> usize
+    requires { place ≤ length bytes.now }
+    ensures order { place ≤ result }
+    ensures inside { result ≤ length bytes.now }
+    ensures leads { (p : Inside) → Leads p (take place bytes.now) inside → Leads p (take result bytes.now) inside }
+    ensures plain { has_backslash (take place bytes.now) ≡ false → has_backslash (take result bytes.now) ≡ false }
+{
+    if inside != Inside::Plain {
+        return place;
+    }
+    place + plain_run(&bytes[place..])
+}
+
+/// How far the bytes of a string go, up to its closing quote, and whether a backslash may be among them.
+pub(crate) fn chars_end(bytes: &[u8]) -> (Scan, bool)
+    ensures scan { ScansChars bytes.now result.0 }
+    ensures escapes { MarksEscapes bytes.now result.0 result.1 }
 {
     let mut inside = Inside::Plain;
-    for (i, byte) in bytes.iter().enumerate() {
-        if *byte == 34 && inside == Inside::Plain {
-            return Scan::End(i);
+    let mut escapes = false;
+    let mut at = plain_end(inside, bytes, 0);
+    while at < bytes.len() {
+        let byte = bytes[at];
+        if byte == 34 && inside == Inside::Plain {
+            return (Scan::End(at), escapes);
         }
-        match next_inside(inside, *byte) {
+        match next_inside(inside, byte) {
             Some(next) => inside = next,
-            None => return Scan::Bad(i),
+            None => return (Scan::Bad(at), escapes),
         }
+        escapes = escapes | (byte == 92);
+        at = plain_end(inside, bytes, at + 1);
     }
-    Scan::Short
+    (Scan::Short, escapes)
 }

@@ -1,6 +1,6 @@
 ghost use Rattle.std.specs.Prelude.{◌≡◌, ◌+◌, ◌-◌, ◌<◌, ◌≤◌, ◌++◌, length, take, drop, get_or, IfOk, IfErr, string_bytes};
-ghost use Rattle.std.specs.Prelude.{IsTrue, [], ◌∷◌};
-ghost use Rattle.json_span.specs.Chars.{Behind, backslash, letter_u, content, content_behind, short_escape, code_unit, pair_of, is_high, char_bytes};
+ghost use Rattle.std.specs.Prelude.{IsTrue, [], ◌∷◌, false};
+ghost use Rattle.json_span.specs.Chars.{Behind, backslash, letter_u, content, content_behind, short_escape, code_unit, pair_of, is_high, char_bytes, IsChars, has_backslash};
 ghost use Rattle.std.specs.Char.{digit_value};
 
 use crate::error::JsonNo;
@@ -51,20 +51,16 @@ fn push_char(code: u32, out: &mut Vec<u8>) -> Result<(), JsonNo>
     };
     let mut buffer = [0; 4];
     let encoded = char.encode_utf8(&mut buffer);
-    match out.extend_from_slice(encoded.as_bytes()) {
-        Ok(()) => Ok(()),
-        Err(_) => Err(JsonNo::Want),
-    }
+    out.extend_from_slice(encoded.as_bytes())?;
+    Ok(())
 }
 
 fn push_byte(byte: u8, out: &mut Vec<u8>) -> Result<(), JsonNo>
     ensures ok { IfOk result (λ _. out.new.items ≡ out.old.items ++ byte ∷ []) }
     ensures want { IfErr result (λ e. e ≡ JsonNo.Want) }
 {
-    match out.push(byte) {
-        Ok(()) => Ok(()),
-        Err(_) => Err(JsonNo::Want),
-    }
+    out.push(byte)?;
+    Ok(())
 }
 
 /// The second unit of a pair, behind the first: the bytes that were passed.
@@ -137,29 +133,40 @@ fn escape(rest: &[u8], out: &mut Vec<u8>) -> Result<usize, JsonNo>
     }
 }
 
+/// How many bytes stand before the first backslash.
+fn own_count(bytes: &[u8]) -> usize
+    ensures inside { result ≤ length bytes.now }
+    ensures own { has_backslash (take result bytes.now) ≡ false }
+    ensures stops { result < length bytes.now → get_or bytes.now result 0 ≡ 92 }
+{
+    for (i, byte) in bytes.iter().enumerate() {
+        if *byte == 92 {
+            return i;
+        }
+    }
+    bytes.len()
+}
+
 /// The bytes that the characters of a string stand for.
 pub(crate) fn unescape(alloc: Global, chars: &[u8]) -> Result<Text, JsonNo>
+    requires { IsChars chars.now }
     ensures ok { IfOk result (λ t. t ≡ content chars.now) }
     ensures want { IfErr result (λ e. e ≡ JsonNo.Want) }
 {
-    let Ok(mut out) = Vec::with_capacity(alloc, chars.len()) else {
-        return Err(JsonNo::Want);
-    };
+    let mut out = Vec::with_capacity(alloc, chars.len())?;
     let mut at = 0;
-    while at < chars.len() {
-        let byte = chars[at];
-        at += 1;
-        if byte == 92 {
-            match escape(&chars[at..], &mut out) {
-                Ok(n) => at += n,
-                Err(e) => return Err(e),
-            }
-        } else if let Err(e) = push_byte(byte, &mut out) {
-            return Err(e);
+    loop {
+        let run = own_count(&chars[at..]);
+        out.extend_from_slice(&chars[at..at + run])?;
+        at += run;
+        if at == chars.len() {
+            let text = unsafe { String::from_utf8_unchecked(out) };
+            return Ok(Text::from_string(text));
         }
-    }
-    match String::from_utf8(out) {
-        Ok(text) => Ok(Text::from_string(text)),
-        Err(_) => Err(JsonNo::Want),
+        at += 1;
+        match escape(&chars[at..], &mut out) {
+            Ok(n) => at += n,
+            Err(e) => return Err(e),
+        }
     }
 }

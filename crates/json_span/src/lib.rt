@@ -1,6 +1,7 @@
 //! JSON with its source text: a flat tree of nodes, each with the text that it was read from.
 #![tactic(auto)]
 
+mod array;
 mod chars;
 mod error;
 mod escape;
@@ -9,8 +10,14 @@ mod integer;
 mod law;
 mod lookup;
 mod number;
+mod object;
+mod parts;
 mod reader;
+mod scalar;
 mod scan;
+mod source;
+mod state;
+mod token;
 mod tree;
 
 pub use error::JsonNo;

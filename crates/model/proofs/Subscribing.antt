@@ -25,10 +25,10 @@ use Rattle.model.proofs.Readings.{empty_part, is_fresh, only_one, none_expired, 
 use Rattle.model.proofs.Stretches.{keeps_itself}
 
 -- the log before anything is stored
-abbrev no_rows : Log
+abbrev pub no_rows : Log
 no_rows = record { topics = empty_log.topics; committed = none_committed; others = 0 }
 
-no_rows_is_log : IsLog no_rows
+pub no_rows_is_log : IsLog no_rows
 no_rows_is_log = let k = log_is_empty in record { names = k.names; part = k.part }
 
 one_part : IsPart (record { start = 0; end = 1; rows = kafka_at 0 ∷ [] })
@@ -38,7 +38,7 @@ one_part = record { whole = omega arith; rises = (omega arith, tt); ends = λ k 
     ends zero d lt = omega arith
     ends (suc k) d lt = absurd (omega arith)
 
-both_is_log : (committed : Commitments) → IsLog (both committed)
+pub both_is_log : (committed : Commitments) → IsLog (both committed)
 both_is_log committed = record { names = λ i j d lt lt'. absurd (omega arith); part = λ at. part at (bytes_eq (codes "orders") at.topic) refl at.partition refl }
   where
     part : (at : TopicPart) (b : Bool) → bytes_eq (codes "orders") at.topic ≡ b → (n : ℕ) → at.partition ≡ n → IsPart (part_at (both committed) at)
@@ -47,10 +47,10 @@ both_is_log committed = record { names = λ i j d lt lt'. absurd (omega arith); 
     part at true e (suc (suc n)) f = rw (e, f) empty_part
     part at false e n f = rw e empty_part
 
-both_keeps : (committed committed2 : Commitments) → Keeps (both committed) (both committed2)
+pub both_keeps : (committed committed2 : Commitments) → Keeps (both committed) (both committed2)
 both_keeps committed committed2 = let k = keeps_itself (both committed) in record { shape = refl; part = k.part; others = omega arith }
 
-in_order : (p : ℕ) → IsInOrder (both_at p)
+pub in_order : (p : ℕ) → IsInOrder (both_at p)
 in_order p zero (suc zero) d lt lt' = refl
 in_order p zero zero d lt lt' = absurd (omega arith)
 in_order p (suc i) (suc zero) d lt lt' = absurd (omega arith)
@@ -60,7 +60,7 @@ in_order p i (suc (suc j)) d lt lt' = absurd (omega arith)
 one_name : names_rise (codes "orders" ∷ [])
 one_name i j d lt lt' = absurd (omega arith)
 
-is_member : (p : ℕ) (unsaved : Bool) → p < 2 ^ 63 → IsConsumer (member (both_at p) unsaved)
+pub is_member : (p : ℕ) (unsaved : Bool) → p < 2 ^ 63 → IsConsumer (member (both_at p) unsaved)
 is_member p unsaved small = record { order = in_order p; low = low; names = one_name }
   where
     low : IsLow (both_at p)
@@ -68,14 +68,14 @@ is_member p unsaved small = record { order = in_order p; low = low; names = one_
     low (suc zero) d lt = small
     low (suc (suc k)) d lt = absurd (omega arith)
 
-is_unplaced : (unsaved : Bool) → IsConsumer (member [] unsaved)
+pub is_unplaced : (unsaved : Bool) → IsConsumer (member [] unsaved)
 is_unplaced unsaved = record { order = λ i j d lt lt'. absurd (omega arith); low = λ k d lt. absurd (omega arith); names = one_name }
 
 is_unsubscribed : IsConsumer unsubscribed
 is_unsubscribed = record { order = λ i j d lt lt'. absurd (omega arith); low = λ k d lt. absurd (omega arith); names = λ i j d lt lt'. absurd (omega arith) }
 
 -- a step of the consumer's own call
-own_step : (act : Act) (events : List Event) (reply : Reply) (committed committed2 : Commitments) (c d : Consumer) → IsConsumer d
+pub own_step : (act : Act) (events : List Event) (reply : Reply) (committed committed2 : Commitments) (c d : Consumer) → IsConsumer d
     → Acts reader 0 turn act (Some c) (both committed) events (Some reply) (both committed2) (Some d)
     → Step 300000 (only c) (both committed) (entry act events reply) (both committed2) (only d)
 own_step act events reply committed committed2 c d well acts = record {
@@ -134,7 +134,7 @@ produced = record {
     room (suc zero) d lt = omega arith
     room (suc (suc k)) d lt = absurd (omega arith)
 
-produces : Step 300000 nobody no_rows both_produced (both none_committed) nobody
+pub produces : Step 300000 nobody no_rows both_produced (both none_committed) nobody
 produces = record {
   keeps = both_grow;
   log = both_is_log none_committed;
@@ -148,7 +148,7 @@ produces = record {
   });
 }
 
-makes : Step 300000 nobody (both none_committed) (entry (Create (settings_of Start)) [] Made) (both none_committed) (only (fresh (settings_of Start) 0))
+pub makes : Step 300000 nobody (both none_committed) (entry (Create (settings_of Start)) [] Made) (both none_committed) (only (fresh (settings_of Start) 0))
 makes = record {
   keeps = keeps_itself (both none_committed);
   log = both_is_log none_committed;
@@ -163,7 +163,7 @@ makes = record {
 }
 
 -- the list is sorted and repeats are dropped
-subscribes : Acts reader 0 turn (Subscribe (codes "orders" ∷ codes "orders" ∷ [])) (Some (fresh (settings_of Start) 0)) (both none_committed) [] (Some Done) (both none_committed) (Some (member [] false))
+pub subscribes : Acts reader 0 turn (Subscribe (codes "orders" ∷ codes "orders" ∷ [])) (Some (fresh (settings_of Start) 0)) (both none_committed) [] (Some Done) (both none_committed) (Some (member [] false))
 subscribes = (
   refl,
   λ other at. refl,
@@ -191,7 +191,7 @@ at_hand = record { whose = refl; first = first; none = λ e. absurd (cc (All-hea
     first (suc zero) d lt = ([], refl)
     first (suc (suc k)) d lt = absurd (omega arith)
 
-rebalances : Looks reader 0 turn [] (Some 0) None (member [] false) (both none_committed) (Rebalanced (both_at 0) ∷ Looked 0 ∷ []) (Some (Shown Binary first_items)) (both none_committed) (Some (member (both_at 1) true))
+pub rebalances : Looks reader 0 turn [] (Some 0) None (member [] false) (both none_committed) (Rebalanced (both_at 0) ∷ Looked 0 ∷ []) (Some (Shown Binary first_items)) (both none_committed) (Some (member (both_at 1) true))
 rebalances = inr (
   refl,
   record {

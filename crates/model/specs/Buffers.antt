@@ -8,6 +8,7 @@ use Rattle.model.specs.World.Mode.{Assigned}
 use Rattle.model.specs.Entry.{Act, Event}
 use Rattle.model.specs.Entry.Act.{Assign, Seek, SeekEdge, Subscribe, Unsubscribe}
 use Rattle.model.specs.Entry.Event.{Rebalanced, Reset}
+use Rattle.model.specs.Ends.{is_in_force}
 
 -- the rows buffered of a partition
 abbrev pub buffered_at : TopicPart → List Lot → List Row
@@ -52,14 +53,14 @@ pub record AreBuffered (log : Log) (places : List Place) (lots : List Lot) : Typ
   pub whose : map (λ lot. lot.place) lots ≡ places
   pub first : All (λ lot. IsPrefix lot.rows (from log lot.place.at lot.place.position)) lots
 
--- An accepted call leaves no row buffered of a partition that it moves or takes away. `before` are the places assigned before it.
-abbrev pub IsCleared : (before : List Place) → Act → (after : List Lot) → Type 0
-IsCleared before (Assign ats) after = (at : TopicPart) → ((Contains ats at → ⊥) ⊎ (position_in before at ≡ None)) → buffered_at at after ≡ []
-IsCleared before (Seek news) after = All (λ place. buffered_at place.at after ≡ []) news
-IsCleared before (SeekEdge edge ats) after = All (λ at. buffered_at at after ≡ []) ats
-IsCleared before (Subscribe names) after = rows_at_hand after ≡ 0
-IsCleared before Unsubscribe after = rows_at_hand after ≡ 0
-IsCleared before _ after = Unit {0}
+-- An accepted call leaves no row buffered of a partition that it moves or takes away, on the consumer that it found. A Subscribe to the list in force takes none away.
+abbrev pub IsCleared : Consumer → Act → (after : List Lot) → Type 0
+IsCleared c (Assign ats) after = (at : TopicPart) → ((Contains ats at → ⊥) ⊎ (position_in c.assignment at ≡ None)) → buffered_at at after ≡ []
+IsCleared c (Seek news) after = All (λ place. buffered_at place.at after ≡ []) news
+IsCleared c (SeekEdge edge ats) after = All (λ at. buffered_at at after ≡ []) ats
+IsCleared c (Subscribe names) after = is_in_force c names ≡ false → rows_at_hand after ≡ 0
+IsCleared c Unsubscribe after = rows_at_hand after ≡ 0
+IsCleared c _ after = Unit {0}
 
 -- `before` and `after` are the rows at hand, `shown` the rows of the reply, `more` those that were fetched.
 pub record IsBuffered (before after : List Lot) (events : List Event) (shown : List Item) : Type 0 where

@@ -1,11 +1,9 @@
 -- What came of each request of a connection, over the code's entries: each call once, in the order of the requests (a caller's part of a linearizable history).
-use Rattle.std.specs.Prelude.{ℕ, ◌+◌, ◌≡◌, ◌==◌, ◌⊎◌, filter, List, [], ◌∷◌, ◌++◌, Option, Some, None}
-use Rattle.std.proofs.Common.{inr}
-use Rattle.model.specs.World.{Key}
-use Rattle.model.specs.Entry.{Call, Event}
-use Rattle.model.specs.Entry.Event.{Looked}
+use Rattle.std.specs.Prelude.{ℕ, ◌+◌, ◌≤◌, ◌≡◌, ◌==◌, filter, is_some, List, [], ◌∷◌, ◌++◌, map, length, Option, Some, None}
+use Rattle.model.specs.Entry.{Call}
+use Rattle.model.specs.Asked.{numbers}
 use Rattle.model.specs.Texts.{Response}
-use Rattle.model.specs.Noted.{Noted}
+use Rattle.model.specs.Noted.{Noted, EndsInLook}
 
 -- a request's call entered the history and was answered so, or the request was answered without it: its reading or `prepare` refused it, or memory was wanting before its turn
 pub data Handled : Type 0 where
@@ -21,9 +19,9 @@ answer_to (Stayed said) = said
 abbrev pub Looking : Call → ℕ → List Noted → ℕ → Type 0
 Looking call round [] next = next ≡ round
 Looking call round (e ∷ entries) next =
-    (e.call ≡ Some call) × (e.reply ≡ None) × ((before : List (Key ⊎ Event)) × (e.events ≡ before ++ inr (Looked round) ∷ [])) × Looking call (round + 1) entries next
+    (e.call ≡ Some call) × (e.round ≡ Some round) × (e.reply ≡ None) × EndsInLook e.events round × Looking call (round + 1) entries next
 
--- the entries of one call: its looks, and the entry with its reply
+-- the entries of one call: its looks of rounds 0, 1 and so on, and the entry of the next round with its reply
 pub record Answers (call : Call) (said : Response) (entries : List Noted) : Type 0 where
   pub looks : List Noted
   pub round : ℕ
@@ -31,6 +29,7 @@ pub record Answers (call : Call) (said : Response) (entries : List Noted) : Type
   pub last : Noted
   pub whole : entries ≡ looks ++ last ∷ []
   pub call_is : last.call ≡ Some call
+  pub round_is : last.round ≡ Some round
   pub reply_is : last.reply ≡ Some said
 
 -- the entries are those of the calls that entered, in order, each once, and there is no other
@@ -45,17 +44,31 @@ AnswersOrWears handled None entries = AnswersEach handled entries
 AnswersOrWears handled (Some call) entries =
     (answered : List Noted) × (looks : List Noted) × (round : ℕ) × (entries ≡ answered ++ looks) × AnswersEach handled answered × Looking call 0 looks round
 
+-- the entries that have a reply
+abbrev pub answered_in : List Noted → List Noted
+answered_in entries = filter (λ e. is_some e.reply) entries
+
+-- the calls that entered, in order
+abbrev pub calls_in : List Handled → List (Option Call)
+calls_in [] = []
+calls_in (Entered call said ∷ rest) = Some call ∷ calls_in rest
+calls_in (Stayed said ∷ rest) = calls_in rest
+
+-- what they were answered
+abbrev pub answers_in : List Handled → List (Option Response)
+answers_in [] = []
+answers_in (Entered call said ∷ rest) = Some said ∷ answers_in rest
+answers_in (Stayed said ∷ rest) = answers_in rest
+
+-- the entries with a reply are of the calls that entered, one each and in order, with their replies
+abbrev pub AreAnsweredOnce : List Handled → List Noted → Type 0
+AreAnsweredOnce handled entries = (map (λ e. e.call) (answered_in entries) ≡ calls_in handled) × (map (λ e. e.reply) (answered_in entries) ≡ answers_in handled)
+
 -- an entry without call: expiry alone
 abbrev pub IsHousekeeping : List Noted → Type 0
 IsHousekeeping [] = Unit {0}
 IsHousekeeping (e ∷ []) = e.call ≡ None
 IsHousekeeping (e ∷ f ∷ entries) = ⊥
-
--- one connection after another, each with one entry of housekeeping behind it at most
-abbrev pub AnswersConnections : List (List Handled) → List Noted → Type 0
-AnswersConnections [] entries = entries ≡ []
-AnswersConnections (handled ∷ rest) entries =
-    (own : List Noted) × (house : List Noted) × (others : List Noted) × (entries ≡ own ++ house ++ others) × AnswersEach handled own × IsHousekeeping house × AnswersConnections rest others
 
 -- the entries of one caller
 abbrev pub noted_by : ℕ → List Noted → List Noted
@@ -81,3 +94,20 @@ StayingLeavesEntries =
 -- what a caller has in a history that goes on is what it had, and the new entries that are its own
 abbrev pub NotedGrow : Type 0
 NotedGrow = (caller : ℕ) (history more : List Noted) → noted_by caller (history ++ more) ≡ noted_by caller history ++ noted_by caller more
+
+-- each call that entered is answered once, whether or not the pass was worn out behind them
+abbrev pub EnteredCallsAreAnsweredOnce : Type 0
+EnteredCallsAreAnsweredOnce = (handled : List Handled) (worn : Option Call) (entries : List Noted) → AnswersOrWears handled worn entries → AreAnsweredOnce handled entries
+
+-- there is one entry of housekeeping at most
+abbrev pub HouseEntriesAreFew : Type 0
+HouseEntriesAreFew = (entries : List Noted) → IsHousekeeping entries → length entries ≤ 1
+
+-- what a pass has seen has all that its caller has in the history
+abbrev pub SeenEntriesAreOwn : Type 0
+SeenEntriesAreOwn = (caller : ℕ) (history seen : List Noted) → HasSeen caller history seen → noted_by caller history ≡ noted_by caller seen
+
+-- the rounds of the entries of one call are 0, 1 and so on
+abbrev pub AnsweredRoundsCountUp : Type 0
+AnsweredRoundsCountUp =
+    (call : Call) (said : Response) (own : List Noted) → Answers call said own → map (λ (e : Noted). e.round) own ≡ map Some (numbers 0 (length own))

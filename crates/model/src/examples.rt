@@ -2,7 +2,7 @@
 
 ghost use Rattle.std.specs.Prelude.{ℕ, ◌≤◌, ◌≡◌, true, false, [], Some, None};
 ghost use Rattle.model.specs.Legal.{Counts, Legal};
-ghost use Rattle.model.specs.Served.{IsPaced, Serves};
+ghost use Rattle.model.specs.Served.{Serves};
 ghost use Rattle.model.specs.World.Edge.{Start, End};
 ghost use Rattle.model.specs.Readings.{three, four, log_of, reader_at, only, read_by_one, read_after_seek, read_from_the_start, read_from_the_end};
 ghost use Rattle.model.specs.World.Format.{Binary};
@@ -19,7 +19,6 @@ ghost use Rattle.model.specs.ReadingReplies.{told_of_topics, made_again, by_subs
 pub fn reading_one_by_one_is_legal()
     ensures legal { (counts : Counts)
         → Legal 300000 counts read_by_one (only (reader_at Start 3 false)) (log_of three (Some 3)) }
-    ensures paced { IsPaced [] read_by_one }
     ensures replies { replies_of read_by_one ≡ one_by_one }
 {}
 
@@ -28,7 +27,6 @@ pub fn reading_one_by_one_is_legal()
 pub fn reading_after_a_seek_is_legal()
     ensures legal { (counts : Counts)
         → Legal 300000 counts read_after_seek (only (reader_at Start 3 false)) (log_of three (Some 3)) }
-    ensures paced { IsPaced [] read_after_seek }
     ensures replies { replies_of read_after_seek ≡ after_seek }
 {}
 
@@ -37,7 +35,6 @@ pub fn reading_after_a_seek_is_legal()
 pub fn reading_from_the_start_is_legal()
     ensures legal { (counts : Counts)
         → Legal 300000 counts read_from_the_start (only (reader_at Start 3 true)) (log_of three None) }
-    ensures paced { IsPaced [] read_from_the_start }
     ensures replies { replies_of read_from_the_start ≡ from_the_start }
 {}
 
@@ -46,7 +43,6 @@ pub fn reading_from_the_start_is_legal()
 pub fn reading_from_the_end_is_legal()
     ensures legal { (counts : Counts)
         → Legal 300000 counts read_from_the_end (only (reader_at End 4 true)) (log_of four (Some 0)) }
-    ensures paced { IsPaced [] read_from_the_end }
     ensures replies { replies_of read_from_the_end ≡ from_the_end }
 {}
 
@@ -56,7 +52,6 @@ pub fn reading_from_the_end_is_legal()
 pub fn reading_by_subscription_is_legal()
     ensures legal { (counts : Counts)
         → 1 ≤ counts.polls → 1 ≤ counts.beats → Legal 300000 counts read_by_subscription nobody (both twice_committed) }
-    ensures paced { IsPaced [] read_by_subscription }
     ensures replies { replies_of read_by_subscription ≡ by_subscription }
 {}
 
@@ -65,7 +60,6 @@ pub fn reading_by_subscription_is_legal()
 pub fn expiry_by_example_is_legal()
     ensures legal { (counts : Counts)
         → Legal 300000 counts made_used_gone (only_at (used_at 599999) 599999) (log_of [] None) }
-    ensures paced { IsPaced [] made_used_gone }
     ensures replies { replies_of made_used_gone ≡ made_again }
 {}
 
@@ -74,7 +68,6 @@ pub fn expiry_by_example_is_legal()
 pub fn a_wait_has_four_looks()
     ensures legal { (counts : Counts)
         → Legal 300000 counts waited_in_vain (only (reader_at Start 0 false)) (log_of [] None) }
-    ensures paced { IsPaced [] waited_in_vain }
     ensures serves { Serves waiting (Shown Binary []) four_looks }
 {}
 
@@ -82,6 +75,5 @@ pub fn a_wait_has_four_looks()
 /// of them and where it begins and ends; a topic that isn't there by 40401, a partition by 40402.
 pub fn questions_are_answered()
     ensures legal { (counts : Counts) → Legal 300000 counts questions nobody (log_of three None) }
-    ensures paced { IsPaced [] questions }
     ensures replies { replies_of questions ≡ told_of_topics }
 {}

@@ -1,6 +1,6 @@
 //! Which entries serve which calls.
 
-ghost use Rattle.model.specs.Served.{CallsAreAnsweredOnce, MineGrows, RoundsCountUp, ServingGoesOn};
+ghost use Rattle.model.specs.Served.{CallsAreAnsweredOnce, RoundsCountUp, ServingGoesOn};
 
 /// Entries that serve calls and then one more call serve all of these calls, each once.
 pub fn serving_goes_on()
@@ -12,9 +12,4 @@ pub fn serving_goes_on()
 pub fn calls_are_answered_once()
     ensures once { CallsAreAnsweredOnce }
     ensures rounds { RoundsCountUp }
-{}
-
-/// What a caller has in a history that goes on is what it had, and the new entries that are its own.
-pub fn mine_grows()
-    ensures { MineGrows }
 {}

@@ -1,9 +1,7 @@
 ghost use Rattle.std.specs.Prelude.{◌≡◌, ⊤, ℕ, List, Option, IfOk, IfErr, option_map, nat_lt};
-ghost use Rattle.model.specs.Log.{Keeps, IsLog};
-ghost use Rattle.model.specs.Fixed.{SameCommits};
-ghost use Rattle.model.specs.Produced.{NoneAdded};
+ghost use Rattle.model.specs.Log.{IsLog};
 ghost use Rattle.broker_link.specs.declared.link.LinkNo.TheVariants.{Want};
-ghost use Rattle.broker_link.specs.Causes.{HasCause};
+ghost use Rattle.broker_link.specs.Stands.{Reads};
 ghost use Rattle.producer.specs.Counted.{are_within, count_in, IsCount};
 ghost use Rattle.producer.specs.Payloads.{number_in};
 
@@ -27,13 +25,9 @@ pub(crate) fn count_parts<L: Link>(
     link: &mut L,
     topic: &str,
 ) -> Result<Option<usize>, LinkNo>
-    ensures telling { L.tells link.old → L.tells link.new }
-    ensures keeps { L.tells link.old → Keeps (L.log link.old) (L.log link.new) × NoneAdded (L.log link.old) (L.log link.new) × SameCommits (L.log link.old) (L.log link.new) }
-    ensures is_log { L.tells link.old → IsLog (L.log link.old) → IsLog (L.log link.new) }
-    ensures counted { L.tells link.old → IsLog (L.log link.old) → IfOk result (IsCount (L.log link.new) topic.now) }
-    ensures plainly { L.plain link.old → L.plain link.new × IfErr result (λ e. e ≡ Want) }
-    ensures alone { L.plain link.old → (L.log link.new).others ≡ (L.log link.old).others }
-    ensures cause { HasCause (L.counts link.old) (L.counts link.new) result }
+    ensures goes { Reads (L.stand link.old) (L.stand link.new) result }
+    ensures counted { (L.stand link.old).tells → IsLog (L.stand link.old).log → IfOk result (IsCount (L.stand link.new).log topic.now) }
+    ensures plainly { (L.stand link.old).plain → IfErr result (λ e. e ≡ Want) }
 {
     let infos = link.metadata(alloc, Some(topic))?;
     Ok(first_count(infos.as_slice()))

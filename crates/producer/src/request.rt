@@ -1,10 +1,11 @@
 ghost use Rattle.std.specs.Prelude.{◌≡◌, ◌<◌, ◌≢◌, ◌^◌, ℕ, List, All, length, Some, Err, Result};
-ghost use Rattle.model.specs.Log.{Keeps, IsLog};
+ghost use Rattle.model.specs.Log.{IsLog};
 ghost use Rattle.model.specs.Fixed.{SameCommits};
 ghost use Rattle.model.specs.Step.{ProduceEnds};
 ghost use Rattle.broker_link.specs.declared.link.LinkNo.TheVariants.{Want as LinkWant};
 ghost use Rattle.rest_calls.specs.Views.{batch_of, NamesPartition};
 ghost use Rattle.broker_link.specs.Replies.{IsCounted, IsGood, link_reply};
+ghost use Rattle.broker_link.specs.Stands.{Goes};
 ghost use Rattle.producer.specs.Replies.{refusal_reply, reply_of};
 
 use crate::Told;
@@ -41,6 +42,7 @@ fn failed(e: LinkNo) -> ProduceNo
 
 /// Stores the records of a request, with at most one produce call, and answers each in request order.
 /// Nothing is sent but metadata before the topic and each partition are known.
+#[tactic(auto, using(broker_link::proofs::Going::goes_on))]
 pub fn produce<L: Link>(
     alloc: Global,
     now: u64,
@@ -51,18 +53,15 @@ pub fn produce<L: Link>(
     requires some { 0 < length batch.rows }
     requires few { length batch.rows < 2 ^ 63 }
     requires named { All NamesPartition batch.rows }
-    ensures ends { L.tells link.old → IsLog (L.log link.old) → ProduceEnds (L.log link.old) (L.log link.new) topic.now (batch_of batch) (Some (reply_of result)) }
+    ensures ends { (L.stand link.old).tells → IsLog (L.stand link.old).log → ProduceEnds (L.stand link.old).log (L.stand link.new).log topic.now (batch_of batch) (Some (reply_of result)) }
 
     ensures apart { result ≢ Err (LinkFailed LinkWant) }
 
-    ensures telling { L.tells link.old → L.tells link.new }
-    ensures keeps { L.tells link.old → Keeps (L.log link.old) (L.log link.new) × SameCommits (L.log link.old) (L.log link.new) }
-    ensures is_log { L.tells link.old → IsLog (L.log link.old) → IsLog (L.log link.new) }
+    ensures goes { Goes (L.stand link.old) (L.stand link.new) }
+    ensures commits { (L.stand link.old).tells → SameCommits (L.stand link.old).log (L.stand link.new).log }
 
-    ensures counts { IsCounted (L.counts link.old) (L.counts link.new) (reply_of result) }
-    ensures plainly { L.plain link.old → L.plain link.new }
-    ensures good { L.plain link.old → L.tells link.old → IsLog (L.log link.old) → IsGood (reply_of result) }
-    ensures alone { L.plain link.old → (L.log link.new).others ≡ (L.log link.old).others }
+    ensures counts { IsCounted (L.stand link.old).counts (L.stand link.new).counts (reply_of result) }
+    ensures good { (L.stand link.old).plain → (L.stand link.old).tells → IsLog (L.stand link.old).log → IsGood (reply_of result) }
 {
     let count = match count_parts(alloc, link, topic) {
         Ok(Some(count)) => count,

@@ -1,12 +1,10 @@
 ghost use Rattle.std.specs.Prelude.{◌≡◌, ◌<◌, ◌^◌, ℕ, List, map, length, true, All, IfOk, IfErr, OnErr};
-ghost use Rattle.model.specs.Log.{Keeps, IsLog};
 ghost use Rattle.std.specs.List.{list_any};
 ghost use Rattle.gate_io.specs.Counts.{Rose};
 ghost use Rattle.model.specs.Legal.{is_failed};
-ghost use Rattle.model.specs.Fixed.{SameCommits};
 ghost use Rattle.model.specs.Produced.{Answered, Unknown};
 ghost use Rattle.broker_link.specs.declared.link.LinkNo.TheVariants.{Want};
-ghost use Rattle.broker_link.specs.Causes.{HasCause};
+ghost use Rattle.broker_link.specs.Stands.{Calls};
 ghost use Rattle.producer.specs.Grouped.{placed_of};
 ghost use Rattle.rest_calls.specs.Views.{NamesPartition};
 ghost use Rattle.producer.specs.Payloads.{number_in, payload_of};
@@ -41,17 +39,13 @@ pub(crate) fn store<L: Link>(
     requires some { 0 < length rows }
     requires few { length rows < 2 ^ 63 }
     requires named { All NamesPartition rows }
-    ensures telling { L.tells link.old → L.tells link.new }
-    ensures keeps { L.tells link.old → Keeps (L.log link.old) (L.log link.new) × SameCommits (L.log link.old) (L.log link.new) }
-    ensures is_log { L.tells link.old → IsLog (L.log link.old) → IsLog (L.log link.new) }
-    ensures answered { L.tells link.old → IfOk result (λ told. Answered (L.log link.old) (L.log link.new) topic.now (map payload_of rows) (map placed_of told)) }
-    ensures unknown { L.tells link.old → OnErr result (Unknown (L.log link.old) (L.log link.new) topic.now (map payload_of rows)) }
-    ensures cause { HasCause (L.counts link.old) (L.counts link.new) result }
+    ensures goes { Calls (L.stand link.old) (L.stand link.new) result }
+    ensures answered { (L.stand link.old).tells → IfOk result (λ told. Answered (L.stand link.old).log (L.stand link.new).log topic.now (map payload_of rows) (map placed_of told)) }
+    ensures unknown { (L.stand link.old).tells → OnErr result (Unknown (L.stand link.old).log (L.stand link.new).log topic.now (map payload_of rows)) }
     ensures whose { IfOk result (λ told. map (λ t. t.partition) told ≡ map number_in rows) }
-    ensures lacked { L.plain link.old → L.tells link.old → IfOk result (All (TellsPlainly (L.log link.old) topic.now)) }
-    ensures codes { IfOk result (λ told. list_any is_failed (map placed_of told) ≡ true → Rose (L.counts link.old).refusals (L.counts link.new).refusals) }
-    ensures alone { L.plain link.old → (L.log link.new).others ≡ (L.log link.old).others }
-    ensures plainly { L.plain link.old → L.plain link.new × IfErr result (λ e. e ≡ Want) }
+    ensures lacked { (L.stand link.old).plain → (L.stand link.old).tells → IfOk result (All (TellsPlainly (L.stand link.old).log topic.now)) }
+    ensures codes { IfOk result (λ told. list_any is_failed (map placed_of told) ≡ true → Rose (L.stand link.old).counts.refusals (L.stand link.new).counts.refusals) }
+    ensures plainly { (L.stand link.old).plain → IfErr result (λ e. e ≡ Want) }
 {
     let numbers = numbers_of(alloc, &rows)?;
     let parts = group(alloc, rows)?;

@@ -1,7 +1,8 @@
 pub mod Numbers
-pub mod Plainly
+pub mod Answered
 pub mod Plans
-pub mod Serving
+pub mod Progress
 pub mod Statuses
 pub mod Topics
 pub mod Wants
+pub mod Sessions

@@ -6,19 +6,20 @@ use Rattle.model.specs.Entry.{Call, Entry}
 use Rattle.http_conn.specs.declared.request.Request.{Request}
 use Rattle.rest_codes.specs.declared.response.Reply.{Reply}
 use Rattle.rest_codes.specs.declared.response.Reply.TheVariants.{Want}
-use Rattle.proxy_cli.specs.Served.{AnswersOne, IsCalled, IsStarved, Station}
+use Rattle.proxy_cli.specs.Served.{AnswersOne, IsCalled, IsStarved, Gateway}
 
-called_wants : (advertise : List ℕ) (plain ticks : Type 0) (call : Call) (s : Station) (r : Reply) (t : Station) → IsCalled advertise plain ticks call s r t → IsCalled advertise plain ticks call s Want t
-called_wants advertise plain ticks call s r t called = record { said = called.said; answered = called.answered; replied = inr refl; named = called.named }
+called_wants : (idle caller : ℕ) (plain ticks : Type 0) (advertise : List ℕ) (s t : Gateway) (call : Call) (r : Reply) → IsCalled idle caller plain ticks advertise s t call r → IsCalled idle caller plain ticks advertise s t call Want
+called_wants idle caller plain ticks advertise s t call r called = record { said = called.said; answered = called.answered; replied = inr refl; named = called.named }
 
-starved_wants : (call : Call) (s : Station) (r : Reply) (t : Station) → IsStarved call s r t → IsStarved call s Want t
-starved_wants call s r t starved = record { wants = refl; same = starved.same; named = starved.named }
+starved_wants : (s t : Gateway) (call : Call) (r : Reply) → IsStarved s t call r → IsStarved s t call Want
+starved_wants s t call r starved = record { wants = refl; same = starved.same; named = starved.named }
 
-pub answered_wants : (plain ticks : Type 0) (advertise : List ℕ) (request : Request) (s : Station) (r : Reply) (own : List Entry) (t : Station) → AnswersOne plain ticks advertise request s r own t → AnswersOne plain ticks advertise request s Want own t
+pub answered_wants : (idle caller : ℕ) (plain ticks : Type 0) (advertise : List ℕ) (s t : Gateway) (request : Request) (r : Reply) (own : List Entry)
+    → AnswersOne idle caller plain ticks advertise s t request r own → AnswersOne idle caller plain ticks advertise s t request Want own
 unfolding called_wants
-answered_wants plain ticks advertise request s r own t (inl refused) = inl (inl refl, refused.1, refused.2)
-answered_wants plain ticks advertise request s r own t (inr (call, reading, inl starved)) = inr (call, reading, inl (starved_wants call s r t starved.0, starved.1))
-answered_wants plain ticks advertise request s r own t (inr (call, reading, inr called)) = inr (call, reading, inr (called_wants advertise plain ticks call s r t called.0, called.1))
+answered_wants idle caller plain ticks advertise s t request r own (inl refused) = inl (inl refl, refused.1, refused.2)
+answered_wants idle caller plain ticks advertise s t request r own (inr (call, reading, inl starved)) = inr (call, reading, inl (starved_wants s t call r starved.0, starved.1))
+answered_wants idle caller plain ticks advertise s t request r own (inr (call, reading, inr called)) = inr (call, reading, inr (called_wants idle caller plain ticks advertise s t call r called.0, called.1))
 
 -- nothing appended
 pub nothing_appended : (known : Option (List ℕ)) → Appends known known []

@@ -1,13 +1,13 @@
 -- Requests, the replies that they were given, and the entries of the history that these come from.
 use Rattle.std.specs.Prelude.{◌≡◌, ◌⊎◌, ◌||◌, ◌==◌, ℕ, ◌+◌, List, [], ◌∷◌, ◌++◌, All, Contains, Bool, false, sum_by}
 use Rattle.gate_io.specs.Clocks.{Hand}
-use Rattle.model.specs.Log.{Log, TopicPart, Row, rows_in_all}
+use Rattle.model.specs.Log.{IsLog, Log, TopicPart, Row, rows_in_all}
 use Rattle.model.specs.Walk.{Item}
 use Rattle.model.specs.World.{Key}
 use Rattle.model.specs.Entry.{Call, Entry, shown_to}
 use Rattle.model.specs.Stored.{HasStored, is_unknown, stored_by}
 use Rattle.model.specs.Stretch.{Cut, StretchLaw}
-use Rattle.broker_link.specs.Causes.{Counts}
+use Rattle.broker_link.specs.Stands.{Stand}
 use Rattle.rest_calls.specs.Reading.{Reading, Refusal}
 use Rattle.rest_calls.specs.Reading.Read.{Calls}
 use Rattle.rest_calls.specs.Responses.{response_in}
@@ -17,52 +17,52 @@ use Rattle.rest_codes.specs.declared.response.Reply.{Reply}
 use Rattle.rest_codes.specs.declared.response.Reply.TheVariants.{Want}
 use Rattle.http_conn.specs.declared.request.Request.{Request}
 use Rattle.http_conn.specs.Stream.{max_requests}
-use Rattle.instance.specs.Views.{Live}
-use Rattle.desk.specs.Shelf.{world_in}
 use Rattle.desk.specs.Stepping.{never}
-use Rattle.desk.specs.Runs.{State, IsAnswered, Runs, named_after}
+use Rattle.desk.specs.Runs.{State, IsAnswered, Runs, named_after, state_of}
+use Rattle.desk.specs.declared.alone_desk.AloneDesk.{AloneDesk}
 
 -- this reply, or want of memory in its place
 abbrev pub OrWant : Reply → Reply → Type 0
 OrWant wanted r = (r ≡ wanted) ⊎ (r ≡ Want)
 
 -- the gateway with one caller: its consumers, log, clock and counts, and how many instances it has named
-pub record Station : Type 0 where
+pub record Gateway : Type 0 where
   pub state : State
   pub unnamed : ℕ
 
--- the station of a desk with this link and clock
-abbrev pub station : List Live → ℕ → Log → Counts → Hand → ℕ → Station
-station instances last log counts hand unnamed = record { state = record { world = world_in instances last; log = log; hand = hand; counts = counts }; unnamed = unnamed }
+-- the gateway of a desk whose link stands so, with the clock there
+abbrev pub gateway_of : {L : Type 0} → (L → Stand) → AloneDesk L → Hand → Gateway
+gateway_of stand desk hand = record { state = state_of stand desk.shard hand; unnamed = desk.unnamed }
 
 -- the call of a request was answered, and this is its reply, or want of memory in its place
-pub record IsCalled (advertise : List ℕ) (plain ticks : Type 0) (call : Call) (s : Station) (r : Reply) (t : Station) : Type 0 where
+pub record IsCalled (idle caller : ℕ) (plain ticks : Type 0) (advertise : List ℕ) (s t : Gateway) (call : Call) (r : Reply) : Type 0 where
   pub said : Reply
-  pub answered : IsAnswered advertise plain ticks (entered 0 s.unnamed call) s.state (response_in said) t.state
+  pub answered : IsAnswered idle caller advertise plain ticks (entered caller s.unnamed call) s.state (response_in said) t.state
   pub replied : OrWant said r
   pub named : t.unnamed ≡ named_after call s.unnamed
 
 -- memory was wanting before the first turn of the call
-pub record IsStarved (call : Call) (s : Station) (r : Reply) (t : Station) : Type 0 where
+pub record IsStarved (s t : Gateway) (call : Call) (r : Reply) : Type 0 where
   pub wants : r ≡ Want
   pub same : t.state ≡ s.state
   pub named : t.unnamed ≡ named_after call s.unnamed
 
--- One request was answered by these entries: it was refused by its reading, met want of memory before the first turn
--- of its call, or its call was answered.
-abbrev pub AnswersOne : (plain ticks : Type 0) → (advertise : List ℕ) → Request → Station → Reply → List Entry → Station → Type 0
-AnswersOne plain ticks advertise request s r own t =
+-- One request was answered by these entries, from one state of the gateway to another: it was refused by its reading, met
+-- want of memory before the first turn of its call, or its call was answered.
+abbrev pub AnswersOne : (idle caller : ℕ) (plain ticks : Type 0) (advertise : List ℕ) → Gateway → Gateway → Request → Reply → List Entry → Type 0
+AnswersOne idle caller plain ticks advertise s t request r own =
     (Refusal request r × (own ≡ []) × (t ≡ s))
     ⊎ ((call : Call) × Reading request (Calls call)
-    × ((IsStarved call s r t × (own ≡ [])) ⊎ ((called : IsCalled advertise plain ticks call s r t) × (own ≡ called.answered.own))))
+    × ((IsStarved s t call r × (own ≡ [])) ⊎ ((called : IsCalled idle caller plain ticks advertise s t call r) × (own ≡ called.answered.own))))
 
--- The requests were answered in turn, each call once, and there is no other entry. Each leads to the station of the next.
-abbrev pub AnswersAll : (plain ticks : Type 0) → (advertise : List ℕ) → List Request → Station → List Reply → List Entry → Station → Type 0
-AnswersAll plain ticks advertise [] s [] entries t = (entries ≡ []) × (t ≡ s)
-AnswersAll plain ticks advertise (request ∷ requests) s (r ∷ replies) entries t =
-    (m : Station) × (own : List Entry) × (others : List Entry) × (entries ≡ own ++ others) × AnswersOne plain ticks advertise request s r own m × AnswersAll plain ticks advertise requests m replies others t
-AnswersAll plain ticks advertise [] s (r ∷ replies) entries t = ⊥
-AnswersAll plain ticks advertise (request ∷ requests) s [] entries t = ⊥
+-- Requests were answered in turn, each by its own entries, which lead from a state to the next, and there is no other entry.
+-- `one` says of one request that it was answered so: its loop is that of any connection.
+abbrev pub AnswersAll : {S E : Type 0} (one : S → S → Request → Reply → List E → Type 0) → S → S → List Request → List Reply → List E → Type 0
+AnswersAll one s t [] [] entries = (entries ≡ []) × (t ≡ s)
+AnswersAll {S} {E} one s t (request ∷ requests) (r ∷ replies) entries =
+    (m : S) × (own : List E) × (others : List E) × (entries ≡ own ++ others) × one s m request r own × AnswersAll one m t requests replies others
+AnswersAll one s t [] (r ∷ replies) entries = ⊥
+AnswersAll one s t (request ∷ requests) [] entries = ⊥
 
 -- a row that a produce answered as stored is the one that any later reply shows at its topic, partition and offset
 abbrev pub ShowWhatIsStored : List Entry → Type 0
@@ -75,16 +75,30 @@ abbrev pub GainsWhatIsStored : Log → List Entry → Log → Type 0
 GainsWhatIsStored a history b =
     All (λ (e : Entry). is_unknown e.call e.reply ≡ false) history → rows_in_all b + a.others ≡ rows_in_all a + b.others + sum_by stored_by history
 
--- Requests were answered by one run of the model from a station to a station, in which each stretch of a consumer's
+-- Requests were answered by one run of the model from a state of the gateway to another, in which each stretch of a consumer's
 -- replies shows the rows of a partition from the position at its start up to that at its end, and what was stored is shown.
-pub record Answering (plain ticks : Type 0) (advertise : List ℕ) (s : Station) (requests : List Request) (replies : List Reply) (t : Station) : Type 0 where
+pub record Answering (idle caller : ℕ) (plain ticks : Type 0) (advertise : List ℕ) (s t : Gateway) (requests : List Request) (replies : List Reply) : Type 0 where
   pub history : List Entry
-  pub runs : Runs plain ticks s.state history t.state
-  pub served : AnswersAll plain ticks advertise requests s replies history t
+  pub runs : Runs idle caller plain ticks s.state history t.state
+  pub served : AnswersAll (AnswersOne idle caller plain ticks advertise) s t requests replies history
   pub stretches : (before : List Entry) (e : Entry) (entries after : List Entry) → history ≡ before ++ (e ∷ (entries ++ after))
-      → (cut : Cut never s.state.world s.state.log before e entries after t.state.log t.state.world) × StretchLaw never s.state.world s.state.log before e entries after t.state.log t.state.world cut
+      → (cut : Cut idle s.state.world s.state.log before e entries after t.state.log t.state.world) × StretchLaw idle s.state.world s.state.log before e entries after t.state.log t.state.world cut
   pub shown : ShowWhatIsStored history
   pub gained : GainsWhatIsStored s.state.log history t.state.log
+
+-- the desk's link tells a log
+abbrev pub IsKnown : {L : Type 0} → (L → Stand) → AloneDesk L → Type 0
+IsKnown stand desk = (stand desk.shard.link).tells × IsLog (stand desk.shard.link).log
+
+-- one request was answered, from a desk and clock to a desk and clock, by caller 0, and nothing expires
+abbrev pub Exchanges : {L C : Type 0} → (L → Stand) → (C → Type 0) → (C → Hand) → AloneDesk L → C → AloneDesk L → C → Request → Reply → Type 0
+Exchanges stand ticks hand desk clock desk2 clock2 request reply =
+    (own : List Entry) × AnswersOne never 0 (stand desk.shard.link).plain (ticks clock) desk.shard.advertise (gateway_of stand desk (hand clock)) (gateway_of stand desk2 (hand clock2)) request reply own
+
+-- the same of all requests
+abbrev pub ExchangesAll : {L C : Type 0} → (L → Stand) → (C → Type 0) → (C → Hand) → AloneDesk L → C → AloneDesk L → C → List Request → List Reply → Type 0
+ExchangesAll stand ticks hand desk clock desk2 clock2 requests replies =
+    Answering never 0 (stand desk.shard.link).plain (ticks clock) desk.shard.advertise (gateway_of stand desk (hand clock)) (gateway_of stand desk2 (hand clock2)) requests replies
 
 -- the response to a request closes
 abbrev pub closes : ℕ → Request → Bool

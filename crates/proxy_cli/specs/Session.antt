@@ -1,4 +1,5 @@
--- A session: what is written for the bytes of its input.
+-- A session: what is written for the bytes of its input. `answers` says that requests were answered with replies: that of one
+-- caller over one shard here, and any other for a connection of another kind.
 use Rattle.std.specs.Prelude.{◌≡◌, ◌⊎◌, ◌<◌, ℕ, ◌+◌, List, [], ◌∷◌, ◌++◌, length, take, true, Option, Some, ⊤}
 use Rattle.std.specs.Io.KnownBytes.{Appends, Consumes}
 use Rattle.gate_io.specs.Clocks.{Hand}
@@ -8,7 +9,9 @@ use Rattle.rest_codes.specs.declared.response.Reply.{Reply}
 use Rattle.http_conn.specs.declared.request.Request.{Request}
 use Rattle.http_conn.specs.Stream.{Ending, Stream, StreamSoFar, Begins, IsBad}
 use Rattle.http_conn.specs.Stream.Ending.{BadPlace}
-use Rattle.proxy_cli.specs.Served.{Answering, OrWant, Station, station, closes, responses}
+use Rattle.model.specs.World.{nobody}
+use Rattle.desk.specs.Stepping.{never}
+use Rattle.proxy_cli.specs.Served.{Answering, Gateway, OrWant, closes, responses}
 use Rattle.proxy_cli.specs.Words.{advertise_of, plans_of, words_of}
 use Rattle.proxy_cli.specs.declared.words.Command.{Command}
 
@@ -18,31 +21,31 @@ IsLast (BadPlace due r) last = (said : Reply) × OrWant r said × (last ≡ resp
 IsLast _ last = last ≡ []
 
 -- a session whose input was read to its end, its limit or its first bad place
-pub record Whole (plain ticks : Type 0) (advertise : List ℕ) (s : Station) (input written : List ℕ) (t : Station) : Type 0 where
+pub record Whole (answers : List Request → List Reply → Type 0) (input written : List ℕ) : Type 0 where
   pub requests : List Request
   pub ending : Ending
   pub stream : Stream input requests ending
   pub replies : List Reply
-  pub answers : Answering plain ticks advertise s requests replies t
+  pub answered : answers requests replies
   pub last : List ℕ
   pub ends : IsLast ending last
   pub output : written ≡ responses 0 requests replies ++ last
 
 -- a session whose read failed: all whole requests of the bytes that it got were answered
-pub record Lost (plain ticks : Type 0) (advertise : List ℕ) (s : Station) (got written : List ℕ) (t : Station) : Type 0 where
+pub record Lost (answers : List Request → List Reply → Type 0) (got written : List ℕ) : Type 0 where
   pub requests : List Request
   pub stream : StreamSoFar got requests
   pub replies : List Reply
-  pub answers : Answering plain ticks advertise s requests replies t
+  pub answered : answers requests replies
   pub output : written ≡ responses 0 requests replies
 
 -- a session that found no memory: the first requests of the input were answered, and nothing else was written
-pub record Starved (plain ticks : Type 0) (advertise : List ℕ) (s : Station) (input written : List ℕ) (t : Station) : Type 0 where
+pub record Starved (answers : List Request → List Reply → Type 0) (input written : List ℕ) : Type 0 where
   pub requests : List Request
   pub rest : List ℕ
   pub begins : Begins 0 input requests rest
   pub replies : List Reply
-  pub answers : Answering plain ticks advertise s requests replies t
+  pub answered : answers requests replies
   pub output : written ≡ responses 0 requests replies
 
 -- the last of the responses, and those before it
@@ -59,12 +62,12 @@ IsCutResponse rest requests replies before last =
     ⊎ ((before ≡ responses 0 requests replies) × ((r : Reply) × IsBad rest r × ((said : Reply) × OrWant r said × (last ≡ response_of said true))))
 
 -- a session whose write failed: n bytes of the last response were written, and its call has had its effect
-pub record CutOff (plain ticks : Type 0) (advertise : List ℕ) (s : Station) (input written : List ℕ) (n : ℕ) (t : Station) : Type 0 where
+pub record CutOff (answers : List Request → List Reply → Type 0) (input written : List ℕ) (n : ℕ) : Type 0 where
   pub requests : List Request
   pub rest : List ℕ
   pub begins : Begins 0 input requests rest
   pub replies : List Reply
-  pub answers : Answering plain ticks advertise s requests replies t
+  pub answered : answers requests replies
   pub before : List ℕ
   pub last : List ℕ
   pub cut : IsCutResponse rest requests replies before last
@@ -72,40 +75,38 @@ pub record CutOff (plain ticks : Type 0) (advertise : List ℕ) (s : Station) (i
   pub output : written ≡ before ++ take n last
 
 -- What is said of a session whose source tells its input, into a sink that tells what it holds.
-abbrev pub ServesAll : (plain ticks : Type 0) → (advertise : List ℕ) → Station → Option (List ℕ) → Option (List ℕ) → Option (List ℕ) → Station → Type 0
-ServesAll plain ticks advertise s left held held2 t =
-    (input : List ℕ) → left ≡ Some input → (written : List ℕ) × Appends held held2 written × Whole plain ticks advertise s input written t
+abbrev pub ServesAll : (answers : List Request → List Reply → Type 0) → Option (List ℕ) → Option (List ℕ) → Option (List ℕ) → Type 0
+ServesAll answers left held held2 = (input : List ℕ) → left ≡ Some input → (written : List ℕ) × Appends held held2 written × Whole answers input written
 
-abbrev pub ServesSome : (plain ticks : Type 0) → (advertise : List ℕ) → Station → Option (List ℕ) → Option (List ℕ) → Option (List ℕ) → Option (List ℕ) → Station → Type 0
-ServesSome plain ticks advertise s left left2 held held2 t =
-    (input : List ℕ) → left ≡ Some input → (got : List ℕ) × (written : List ℕ) × Consumes left left2 got × Appends held held2 written × Lost plain ticks advertise s got written t
+abbrev pub ServesSome : (answers : List Request → List Reply → Type 0) → Option (List ℕ) → Option (List ℕ) → Option (List ℕ) → Option (List ℕ) → Type 0
+ServesSome answers left left2 held held2 =
+    (input : List ℕ) → left ≡ Some input → (got : List ℕ) × (written : List ℕ) × Consumes left left2 got × Appends held held2 written × Lost answers got written
 
-abbrev pub ServesFirst : (plain ticks : Type 0) → (advertise : List ℕ) → Station → Option (List ℕ) → Option (List ℕ) → Option (List ℕ) → Station → Type 0
-ServesFirst plain ticks advertise s left held held2 t =
-    (input : List ℕ) → left ≡ Some input → (written : List ℕ) × Appends held held2 written × Starved plain ticks advertise s input written t
+abbrev pub ServesFirst : (answers : List Request → List Reply → Type 0) → Option (List ℕ) → Option (List ℕ) → Option (List ℕ) → Type 0
+ServesFirst answers left held held2 = (input : List ℕ) → left ≡ Some input → (written : List ℕ) × Appends held held2 written × Starved answers input written
 
-abbrev pub ServesUntil : (plain ticks : Type 0) → (advertise : List ℕ) → Station → Option (List ℕ) → Option (List ℕ) → Option (List ℕ) → ℕ → Station → Type 0
-ServesUntil plain ticks advertise s left held held2 n t =
-    (input : List ℕ) → left ≡ Some input → (written : List ℕ) × Appends held held2 written × CutOff plain ticks advertise s input written n t
+abbrev pub ServesUntil : (answers : List Request → List Reply → Type 0) → Option (List ℕ) → Option (List ℕ) → Option (List ℕ) → ℕ → Type 0
+ServesUntil answers left held held2 n = (input : List ℕ) → left ≡ Some input → (written : List ℕ) × Appends held held2 written × CutOff answers input written n
 
--- the station at which a session begins: nobody is live, over an empty log of the words' topics
-abbrev pub first_station : Command → Hand → Station
-first_station command hand = station [] 0 (empty_log (plans_of command)) no_counts hand 0
+-- the gateway at which a session begins: nobody is live, over an empty log of the words' topics
+abbrev pub first_gateway : Command → Hand → Gateway
+first_gateway command hand = record { state = record { world = nobody; log = empty_log (plans_of command); hand = hand; counts = no_counts }; unnamed = 0 }
 
--- What is said of the station that a session ends at, where the words ask for one. It ends with the clock as it stands.
-abbrev pub IsSession : List (List ℕ) → Hand → Hand → ((advertise : List ℕ) → Station → Station → Type 0) → Type 0
-IsSession words hand hand2 says =
-    (command : Command) × (words_of words ≡ Some command) × (t : Station) × (t.state.hand ≡ hand2) × says (advertise_of command) (first_station command hand) t
+-- What is said of the requests of a session, where the words ask for one: they are answered by one run from that gateway, which
+-- ends with the clock as it stands, over a link that never fails.
+abbrev pub IsSession : List (List ℕ) → (ticks : Type 0) → Hand → Hand → ((answers : List Request → List Reply → Type 0) → Type 0) → Type 0
+IsSession words ticks hand hand2 says =
+    (command : Command) × (words_of words ≡ Some command) × (t : Gateway) × (t.state.hand ≡ hand2) × says (Answering never 0 ⊤ ticks (advertise_of command) (first_gateway command hand) t)
 
 -- the output is that of the whole input, of the bytes that a failing source gave, of first requests, or cut by a failing sink
 abbrev pub SessionServes : List (List ℕ) → (ticks : Type 0) → Hand → Hand → Option (List ℕ) → Option (List ℕ) → Option (List ℕ) → Type 0
-SessionServes words ticks hand hand2 left held held2 = IsSession words hand hand2 (λ advertise s t. ServesAll ⊤ ticks advertise s left held held2 t)
+SessionServes words ticks hand hand2 left held held2 = IsSession words ticks hand hand2 (λ answers. ServesAll answers left held held2)
 
 abbrev pub SessionLoses : List (List ℕ) → (ticks : Type 0) → Hand → Hand → Option (List ℕ) → Option (List ℕ) → Option (List ℕ) → Option (List ℕ) → Type 0
-SessionLoses words ticks hand hand2 left left2 held held2 = IsSession words hand hand2 (λ advertise s t. ServesSome ⊤ ticks advertise s left left2 held held2 t)
+SessionLoses words ticks hand hand2 left left2 held held2 = IsSession words ticks hand hand2 (λ answers. ServesSome answers left left2 held held2)
 
 abbrev pub SessionStarves : List (List ℕ) → (ticks : Type 0) → Hand → Hand → Option (List ℕ) → Option (List ℕ) → Option (List ℕ) → Type 0
-SessionStarves words ticks hand hand2 left held held2 = IsSession words hand hand2 (λ advertise s t. ServesFirst ⊤ ticks advertise s left held held2 t)
+SessionStarves words ticks hand hand2 left held held2 = IsSession words ticks hand hand2 (λ answers. ServesFirst answers left held held2)
 
 abbrev pub SessionCuts : List (List ℕ) → (ticks : Type 0) → Hand → Hand → Option (List ℕ) → Option (List ℕ) → Option (List ℕ) → Type 0
-SessionCuts words ticks hand hand2 left held held2 = IsSession words hand hand2 (λ advertise s t. (n : ℕ) × ServesUntil ⊤ ticks advertise s left held held2 n t)
+SessionCuts words ticks hand hand2 left held held2 = IsSession words ticks hand hand2 (λ answers. (n : ℕ) × ServesUntil answers left held held2 n)

@@ -1,25 +1,23 @@
 -- One turn of a session: one request, or why there is no further one.
 use Rattle.std.specs.Prelude.{◌≡◌, ◌||◌, ◌<◌, ℕ, List, [], length, take, Bool, true, false, Option}
 use Rattle.std.specs.Io.KnownBytes.{Appends}
-use Rattle.model.specs.Entry.{Entry}
 use Rattle.rest_codes.specs.Response.{response_of}
 use Rattle.rest_codes.specs.declared.response.Reply.{Reply}
 use Rattle.http_conn.specs.declared.request.Request.{Request}
 use Rattle.http_conn.specs.Stream.{Ending, IsRequest, IsCut, IsBad}
 use Rattle.http_conn.specs.Stream.Ending.{End, Closed, Limit, CutShort, BadPlace}
 use Rattle.http_conn.specs.Told.{Comes}
-use Rattle.proxy_cli.specs.Served.{AnswersOne, OrWant, Station}
+use Rattle.proxy_cli.specs.Served.{OrWant}
 use Rattle.proxy_cli.specs.Session.{IsLast}
 
 -- one request of what is still to come was answered, and the rest is still to come
-pub record ServesOne (plain ticks : Type 0) (advertise : List ℕ) (all held : List ℕ) (left : Option (List ℕ)) (s t : Station) (before now : Option (List ℕ)) (close : Bool) : Type 0 where
+pub record ServesOne (answers : Request → Reply → Type 0) (all held : List ℕ) (left : Option (List ℕ)) (before now : Option (List ℕ)) (close : Bool) : Type 0 where
   pub request : Request
   pub reply : Reply
   pub rest : List ℕ
   pub comes : Comes held left rest
   pub is : IsRequest all request rest
-  pub own : List Entry
-  pub answered : AnswersOne plain ticks advertise request s reply own t
+  pub answered : answers request reply
   pub wrote : Appends before now (response_of reply (request.close || close))
 
 -- why no request follows
@@ -43,20 +41,18 @@ abbrev pub CutAt : ℕ → List ℕ → Option (List ℕ) → Option (List ℕ) 
 CutAt n bytes before now = (n < length bytes) × Appends before now (take n bytes)
 
 -- a request was answered, and its response was cut
-pub record CutsReply (plain ticks : Type 0) (advertise : List ℕ) (n : ℕ) (all : List ℕ) (s t : Station) (before now : Option (List ℕ)) (close : Bool) : Type 0 where
+pub record CutsReply (answers : Request → Reply → Type 0) (n : ℕ) (all : List ℕ) (before now : Option (List ℕ)) (close : Bool) : Type 0 where
   pub request : Request
   pub reply : Reply
   pub rest : List ℕ
   pub is : IsRequest all request rest
-  pub own : List Entry
-  pub answered : AnswersOne plain ticks advertise request s reply own t
+  pub answered : answers request reply
   pub cut : CutAt n (response_of reply (request.close || close)) before now
 
--- the response to a bad place was cut, and nothing else was done
-pub record CutsRefusal (n : ℕ) (all : List ℕ) (s t : Station) (before now : Option (List ℕ)) : Type 0 where
+-- the response to a bad place was cut
+pub record CutsRefusal (n : ℕ) (all : List ℕ) (before now : Option (List ℕ)) : Type 0 where
   pub wanted : Reply
   pub bad : IsBad all wanted
   pub said : Reply
   pub replied : OrWant wanted said
   pub cut : CutAt n (response_of said true) before now
-  pub same : t ≡ s

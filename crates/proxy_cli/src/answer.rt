@@ -1,7 +1,6 @@
-ghost use Rattle.std.specs.Prelude.{◌≡◌, ℕ, List};
-ghost use Rattle.model.specs.Entry.{Entry};
-ghost use Rattle.model.specs.Log.{IsLog};
-ghost use Rattle.proxy_cli.specs.Served.{AnswersOne, station};
+ghost use Rattle.broker_link.specs.Stands.{Goes};
+ghost use Rattle.std.specs.Prelude.{◌≡◌};
+ghost use Rattle.proxy_cli.specs.Served.{Exchanges, IsKnown};
 
 use broker_link::Link;
 use desk::AloneDesk;
@@ -18,15 +17,10 @@ pub(crate) fn answer<L: Link + Drop, C: Clock>(
     clock: &mut C,
     request: &Request,
 ) -> Reply
-    ensures answered { L.tells desk.old.shard.link → IsLog (L.log desk.old.shard.link)
-        → (own : List Entry) × AnswersOne (L.plain desk.old.shard.link) (C.tells clock.old) desk.old.shard.advertise request.now
-        (station desk.old.shard.instances.items desk.old.shard.last (L.log desk.old.shard.link) (L.counts desk.old.shard.link) (C.hand clock.old) desk.old.unnamed) result own
-        (station desk.new.shard.instances.items desk.new.shard.last (L.log desk.new.shard.link) (L.counts desk.new.shard.link) (C.hand clock.new) desk.new.unnamed) }
+    ensures answered { IsKnown L.stand desk.old → Exchanges L.stand C.tells C.hand desk.old clock.old desk.new clock.new request.now result }
 
     ensures advertise { desk.new.shard.advertise ≡ desk.old.shard.advertise }
-    ensures telling { L.tells desk.old.shard.link → L.tells desk.new.shard.link }
-    ensures is_log { L.tells desk.old.shard.link → IsLog (L.log desk.old.shard.link) → IsLog (L.log desk.new.shard.link) }
-    ensures plainly { L.plain desk.old.shard.link → L.plain desk.new.shard.link }
+    ensures goes { Goes (L.stand desk.old.shard.link) (L.stand desk.new.shard.link) }
     ensures ticking { C.tells clock.old → C.tells clock.new }
 {
     match call_of(alloc, request) {

@@ -1,15 +1,14 @@
 ghost use Rattle.std.specs.Prelude.{◌≡◌, ◌≤◌, ◌<◌, ◌⊎◌, ◌||◌, ℕ, List, [], Ok, Err, true, false, OnOk, OnErr, Some, None, take, length};
 ghost use Rattle.std.specs.Io.KnownBytes.{Appends};
 ghost use Rattle.gate_io.specs.Counts.{Rose};
-ghost use Rattle.model.specs.Log.{IsLog};
+ghost use Rattle.broker_link.specs.Stands.{Goes};
 ghost use Rattle.rest_codes.specs.Response.{response_of};
 ghost use Rattle.rest_codes.specs.declared.response.Reply.{Reply as AReply};
 ghost use Rattle.rest_codes.specs.declared.response.Reply.TheVariants.{Want as WantReply};
 ghost use Rattle.http_conn.specs.declared.request.ConnNo.TheVariants.{WriteFault, ReadFault, Want as WantConn};
 ghost use Rattle.http_conn.specs.Told.{Comes};
 ghost use Rattle.http_conn.specs.Next.{IsWaiting};
-ghost use Rattle.model.specs.Entry.{Entry};
-ghost use Rattle.proxy_cli.specs.Served.{AnswersOne, OrWant, station};
+ghost use Rattle.proxy_cli.specs.Served.{Exchanges, ExchangesAll, IsKnown, OrWant};
 ghost use Rattle.proxy_cli.specs.Session.{ServesAll, ServesSome, ServesFirst, ServesUntil};
 ghost use Rattle.proxy_cli.specs.Turn.{ServesOne, EndsHere, CutAt, CutsReply, CutsRefusal};
 
@@ -63,24 +62,14 @@ fn exchange<K: Sink, L: Link + Drop, C: Clock>(
     close: bool,
 ) -> Result<(), ConnNo>
     ensures same { connection.new ≡ connection.old }
-    ensures answered { OnOk result (L.tells desk.old.shard.link → IsLog (L.log desk.old.shard.link)
-        → (reply : AReply) × (own : List Entry) × AnswersOne (L.plain desk.old.shard.link) (C.tells clock.old) desk.old.shard.advertise request.now
-        (station desk.old.shard.instances.items desk.old.shard.last (L.log desk.old.shard.link) (L.counts desk.old.shard.link) (C.hand clock.old) desk.old.unnamed) reply own
-        (station desk.new.shard.instances.items desk.new.shard.last (L.log desk.new.shard.link) (L.counts desk.new.shard.link) (C.hand clock.new) desk.new.unnamed)
-        × Appends (K.held sink.old) (K.held sink.new) (response_of reply close)) }
-    ensures cut { (n : ℕ) → result ≡ Err (WriteFault n) → L.tells desk.old.shard.link → IsLog (L.log desk.old.shard.link)
-        → (reply : AReply) × (own : List Entry) × AnswersOne (L.plain desk.old.shard.link) (C.tells clock.old) desk.old.shard.advertise request.now
-        (station desk.old.shard.instances.items desk.old.shard.last (L.log desk.old.shard.link) (L.counts desk.old.shard.link) (C.hand clock.old) desk.old.unnamed) reply own
-        (station desk.new.shard.instances.items desk.new.shard.last (L.log desk.new.shard.link) (L.counts desk.new.shard.link) (C.hand clock.new) desk.new.unnamed)
-        × CutAt n (response_of reply close) (K.held sink.old) (K.held sink.new) }
+    ensures answered { OnOk result (IsKnown L.stand desk.old → (reply : AReply) × Exchanges L.stand C.tells C.hand desk.old clock.old desk.new clock.new request.now reply × Appends (K.held sink.old) (K.held sink.new) (response_of reply close)) }
+    ensures cut { (n : ℕ) → result ≡ Err (WriteFault n) → IsKnown L.stand desk.old → (reply : AReply) × Exchanges L.stand C.tells C.hand desk.old clock.old desk.new clock.new request.now reply × CutAt n (response_of reply close) (K.held sink.old) (K.held sink.new) }
     ensures only { OnErr result ((n : ℕ) × (result ≡ Err (WriteFault n))) }
     ensures cause { OnErr result (Rose (K.faults sink.old) (K.faults sink.new) ⊎ Rose (K.stalls sink.old) (K.stalls sink.new)) }
     ensures counts { (K.faults sink.old ≤ K.faults sink.new) × (K.stalls sink.old ≤ K.stalls sink.new) }
 
     ensures advertise { desk.new.shard.advertise ≡ desk.old.shard.advertise }
-    ensures telling { L.tells desk.old.shard.link → L.tells desk.new.shard.link }
-    ensures is_log { L.tells desk.old.shard.link → IsLog (L.log desk.old.shard.link) → IsLog (L.log desk.new.shard.link) }
-    ensures plainly { L.plain desk.old.shard.link → L.plain desk.new.shard.link }
+    ensures goes { Goes (L.stand desk.old.shard.link) (L.stand desk.new.shard.link) }
     ensures ticking { C.tells clock.old → C.tells clock.new }
 {
     let reply = answer(alloc, desk, clock, request);
@@ -128,18 +117,12 @@ fn serve_one<S: Source, K: Sink, L: Link + Drop, C: Clock>(
 ) -> Result<bool, ConnNo>
     requires { connection.old.over ≡ false }
     ensures going { result ≡ Ok true → connection.new.over ≡ false }
-    ensures served { result ≡ Ok true → L.tells desk.old.shard.link → IsLog (L.log desk.old.shard.link) → (all : List ℕ) → Comes connection.old.held (S.left source.old) all
-        → ServesOne (L.plain desk.old.shard.link) (C.tells clock.old) desk.old.shard.advertise all connection.new.held (S.left source.new)
-        (station desk.old.shard.instances.items desk.old.shard.last (L.log desk.old.shard.link) (L.counts desk.old.shard.link) (C.hand clock.old) desk.old.unnamed)
-        (station desk.new.shard.instances.items desk.new.shard.last (L.log desk.new.shard.link) (L.counts desk.new.shard.link) (C.hand clock.new) desk.new.unnamed) (K.held sink.old) (K.held sink.new) close }
+    ensures served { result ≡ Ok true → IsKnown L.stand desk.old → (all : List ℕ) → Comes connection.old.held (S.left source.old) all
+        → ServesOne (Exchanges L.stand C.tells C.hand desk.old clock.old desk.new clock.new) all connection.new.held (S.left source.new) (K.held sink.old) (K.held sink.new) close }
     ensures ended { result ≡ Ok false → (desk.new ≡ desk.old) × (clock.new ≡ clock.old) × ((all : List ℕ) → Comes connection.old.held (S.left source.old) all → EndsHere all (K.held sink.old) (K.held sink.new)) }
-    ensures cut { (n : ℕ) → result ≡ Err (WriteFault n) → L.tells desk.old.shard.link → IsLog (L.log desk.old.shard.link) → (all : List ℕ) → Comes connection.old.held (S.left source.old) all
-        → CutsReply (L.plain desk.old.shard.link) (C.tells clock.old) desk.old.shard.advertise n all
-        (station desk.old.shard.instances.items desk.old.shard.last (L.log desk.old.shard.link) (L.counts desk.old.shard.link) (C.hand clock.old) desk.old.unnamed)
-        (station desk.new.shard.instances.items desk.new.shard.last (L.log desk.new.shard.link) (L.counts desk.new.shard.link) (C.hand clock.new) desk.new.unnamed) (K.held sink.old) (K.held sink.new) close
-        ⊎ CutsRefusal n all
-        (station desk.old.shard.instances.items desk.old.shard.last (L.log desk.old.shard.link) (L.counts desk.old.shard.link) (C.hand clock.old) desk.old.unnamed)
-        (station desk.new.shard.instances.items desk.new.shard.last (L.log desk.new.shard.link) (L.counts desk.new.shard.link) (C.hand clock.new) desk.new.unnamed) (K.held sink.old) (K.held sink.new) }
+    ensures cut { (n : ℕ) → result ≡ Err (WriteFault n) → IsKnown L.stand desk.old → (all : List ℕ) → Comes connection.old.held (S.left source.old) all
+        → CutsReply (Exchanges L.stand C.tells C.hand desk.old clock.old desk.new clock.new) n all (K.held sink.old) (K.held sink.new) close
+        ⊎ (CutsRefusal n all (K.held sink.old) (K.held sink.new) × (desk.new ≡ desk.old) × (clock.new ≡ clock.old)) }
     ensures lost { result ≡ Err ReadFault → (desk.new ≡ desk.old) × (clock.new ≡ clock.old) × (sink.new ≡ sink.old)
         × ((all : List ℕ) → Comes connection.old.held (S.left source.old) all → Comes connection.new.held (S.left source.new) all × IsWaiting connection.new.held) }
     ensures starved { result ≡ Err WantConn → (desk.new ≡ desk.old) × (clock.new ≡ clock.old) × (sink.new ≡ sink.old) }
@@ -150,9 +133,7 @@ fn serve_one<S: Source, K: Sink, L: Link + Drop, C: Clock>(
     ensures writes { (K.faults sink.old ≤ K.faults sink.new) × (K.stalls sink.old ≤ K.stalls sink.new) }
 
     ensures advertise { desk.new.shard.advertise ≡ desk.old.shard.advertise }
-    ensures telling { L.tells desk.old.shard.link → L.tells desk.new.shard.link }
-    ensures is_log { L.tells desk.old.shard.link → IsLog (L.log desk.old.shard.link) → IsLog (L.log desk.new.shard.link) }
-    ensures plainly { L.plain desk.old.shard.link → L.plain desk.new.shard.link }
+    ensures goes { Goes (L.stand desk.old.shard.link) (L.stand desk.new.shard.link) }
     ensures ticking { C.tells clock.old → C.tells clock.new }
 {
     match connection.next(alloc, source) {
@@ -183,22 +164,10 @@ pub fn serve_stream<S: Source, K: Sink, L: Link + Drop, C: Clock>(
     desk: &mut AloneDesk<L>,
     clock: &mut C,
 ) -> Result<(), ConnNo>
-    ensures output { OnOk result (L.tells desk.old.shard.link → IsLog (L.log desk.old.shard.link)
-        → ServesAll (L.plain desk.old.shard.link) (C.tells clock.old) desk.old.shard.advertise
-        (station desk.old.shard.instances.items desk.old.shard.last (L.log desk.old.shard.link) (L.counts desk.old.shard.link) (C.hand clock.old) desk.old.unnamed) (S.left source.old) (K.held sink.old) (K.held sink.new)
-        (station desk.new.shard.instances.items desk.new.shard.last (L.log desk.new.shard.link) (L.counts desk.new.shard.link) (C.hand clock.new) desk.new.unnamed)) }
-    ensures lost { result ≡ Err ReadFault → L.tells desk.old.shard.link → IsLog (L.log desk.old.shard.link)
-        → ServesSome (L.plain desk.old.shard.link) (C.tells clock.old) desk.old.shard.advertise
-        (station desk.old.shard.instances.items desk.old.shard.last (L.log desk.old.shard.link) (L.counts desk.old.shard.link) (C.hand clock.old) desk.old.unnamed) (S.left source.old) (S.left source.new) (K.held sink.old) (K.held sink.new)
-        (station desk.new.shard.instances.items desk.new.shard.last (L.log desk.new.shard.link) (L.counts desk.new.shard.link) (C.hand clock.new) desk.new.unnamed) }
-    ensures cut { (n : ℕ) → result ≡ Err (WriteFault n) → L.tells desk.old.shard.link → IsLog (L.log desk.old.shard.link)
-        → ServesUntil (L.plain desk.old.shard.link) (C.tells clock.old) desk.old.shard.advertise
-        (station desk.old.shard.instances.items desk.old.shard.last (L.log desk.old.shard.link) (L.counts desk.old.shard.link) (C.hand clock.old) desk.old.unnamed) (S.left source.old) (K.held sink.old) (K.held sink.new) n
-        (station desk.new.shard.instances.items desk.new.shard.last (L.log desk.new.shard.link) (L.counts desk.new.shard.link) (C.hand clock.new) desk.new.unnamed) }
-    ensures starved { result ≡ Err WantConn → L.tells desk.old.shard.link → IsLog (L.log desk.old.shard.link)
-        → ServesFirst (L.plain desk.old.shard.link) (C.tells clock.old) desk.old.shard.advertise
-        (station desk.old.shard.instances.items desk.old.shard.last (L.log desk.old.shard.link) (L.counts desk.old.shard.link) (C.hand clock.old) desk.old.unnamed) (S.left source.old) (K.held sink.old) (K.held sink.new)
-        (station desk.new.shard.instances.items desk.new.shard.last (L.log desk.new.shard.link) (L.counts desk.new.shard.link) (C.hand clock.new) desk.new.unnamed) }
+    ensures output { OnOk result (IsKnown L.stand desk.old → ServesAll (ExchangesAll L.stand C.tells C.hand desk.old clock.old desk.new clock.new) (S.left source.old) (K.held sink.old) (K.held sink.new)) }
+    ensures lost { result ≡ Err ReadFault → IsKnown L.stand desk.old → ServesSome (ExchangesAll L.stand C.tells C.hand desk.old clock.old desk.new clock.new) (S.left source.old) (S.left source.new) (K.held sink.old) (K.held sink.new) }
+    ensures cut { (n : ℕ) → result ≡ Err (WriteFault n) → IsKnown L.stand desk.old → ServesUntil (ExchangesAll L.stand C.tells C.hand desk.old clock.old desk.new clock.new) (S.left source.old) (K.held sink.old) (K.held sink.new) n }
+    ensures starved { result ≡ Err WantConn → IsKnown L.stand desk.old → ServesFirst (ExchangesAll L.stand C.tells C.hand desk.old clock.old desk.new clock.new) (S.left source.old) (K.held sink.old) (K.held sink.new) }
 
     ensures read { result ≡ Err ReadFault → Rose (S.faults source.old) (S.faults source.new) }
     ensures write { (n : ℕ) → result ≡ Err (WriteFault n) → Rose (K.faults sink.old) (K.faults sink.new) ⊎ Rose (K.stalls sink.old) (K.stalls sink.new) }

@@ -12,3 +12,7 @@ grown base so_far item mid new held next = next ∙ ap (λ l. l ++ item) held �
 pub four : (base a b c d first second third last : List ℕ) → first ≡ base ++ a → second ≡ first ++ b → third ≡ second ++ c → last ≡ third ++ d → last ≡ base ++ (((a ++ b) ++ c) ++ d)
 four base a b c d first second third last e f g h =
     grown base ((a ++ b) ++ c) d third last (grown base (a ++ b) c second third (grown base a b first second e f) g) h
+
+-- two items in turn
+pub two : (base a b first second : List ℕ) → first ≡ base ++ a → second ≡ first ++ b → second ≡ base ++ (a ++ b)
+two base a b first second e f = grown base a b first second e f

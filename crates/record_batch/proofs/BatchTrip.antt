@@ -1,5 +1,5 @@
 -- From a batch that is written, to the rows that it is read as.
-use Rattle.std.proofs.Common.{◌≡◌, ℕ, zero, suc, ◌+◌, ◌-◌, ◌<◌, ◌≤◌, ◌^◌, List, [], ◌++◌, length, drop, ℤ, pos, None, Some, FitsSigned, Ok, true, false, nat_le, ◌==◌, refl, sym, ap, ◌∙◌, subst, arith, append-nil}
+use Rattle.std.proofs.Common.{◌≡◌, ℕ, zero, suc, ◌+◌, ◌-◌, ◌<◌, ◌≤◌, ◌^◌, List, [], ◌++◌, length, drop, ℤ, pos, None, Some, FitsSigned, Ok, true, false, nat_le, ◌==◌, refl, sym, ap, ◌∙◌, subst, arith, append-nil, length-append, replicate}
 use Rattle.std.specs.Int.{w16, w32, cast_signed, cast_unsigned}
 use Rattle.std.proofs.Math.Seq.{take-length, drop-length}
 use Rattle.std.proofs.lemmas.Bool.{eq-eqb}
@@ -45,6 +45,14 @@ front_size size sum summed = refl
 front_length : (size sum : ℤ) (summed : List ℕ) → length (head_bytes size ++ int32_bytes sum ++ summed) ≡ 21 + length summed
 unfolding head_bytes
 front_length size sum summed = omega arith
+
+-- the head of a batch as it is put together
+pub head_length : (size : ℤ) (sum start front head : List ℕ) → start ≡ [] → front ≡ start ++ head_bytes size → head ≡ front ++ sum → length sum ≡ 4 → length head ≡ 21
+unfolding head_bytes
+head_length size sum start front head empty fronted whole four =
+    let front_is : front ≡ head_bytes size = fronted ∙ ap (λ s. s ++ head_bytes size) empty in
+    let long : length front ≡ 17 = ap length front_is in
+    ap length whole ∙ omega (arith, length-append front sum)
 
 fields_attributes : (base_ts last count : ℤ) (records : List ℕ) → int16_at (stamps_bytes base_ts last ++ producer_bytes count ++ records) ≡ pos 0
 unfolding stamps_bytes producer_bytes
@@ -128,12 +136,23 @@ written_reads base_ts rows few small sum =
     one_batch (length bytes) bytes (stored_from 0 rows) (omega (arith, whole)) (frame_is bytes _ (9 + length summed) (front_size size crc summed) (omega (arith, long)) small (omega (arith, whole)))
     (batch_is bytes summed records (checksum summed) (length rows) (stored_from 0 rows) refl fields behind read)
 
-pub written_out : (base_ts : ℤ) (rows : List NewRecord) (start fields summed begun out : List ℕ) → start ≡ [] → fields ≡ start ++ fields_bytes base_ts (length rows)
-    → summed ≡ fields ++ records_bytes 0 rows → begun ≡ [] → out ≡ begun ++ framed_bytes summed → length rows < 2 ^ 31 → 9 + length summed < 2 ^ 31 → checksum summed < 2 ^ 32
+-- what stands behind the place of the head
+behind_head : (base_ts : ℤ) (rows : List NewRecord) (start place fields begun : List ℕ) → start ≡ [] → place ≡ start ++ replicate 21 0 → fields ≡ place ++ fields_bytes base_ts (length rows)
+    → begun ≡ fields ++ records_bytes 0 rows → drop 21 begun ≡ summed_bytes base_ts rows
+behind_head base_ts rows start place fields begun empty put_place put_fields put_records =
+    let placed : place ≡ replicate 21 0 = put_place ∙ ap (λ l. l ++ replicate 21 0) empty in
+    ap (drop 21) (put_records ∙ ap (λ l. l ++ records_bytes 0 rows) (put_fields ∙ ap (λ l. l ++ fields_bytes base_ts (length rows)) placed))
+
+pub written_bytes : (base_ts : ℤ) (rows : List NewRecord) (start place fields begun out : List ℕ) → start ≡ [] → place ≡ start ++ replicate 21 0 → fields ≡ place ++ fields_bytes base_ts (length rows)
+    → begun ≡ fields ++ records_bytes 0 rows → out ≡ framed_bytes (drop 21 begun) → out ≡ batch_bytes base_ts rows
+written_bytes base_ts rows start place fields begun out empty put_place put_fields put_records set =
+    set ∙ ap framed_bytes (behind_head base_ts rows start place fields begun empty put_place put_fields put_records)
+
+pub written_out : (base_ts : ℤ) (rows : List NewRecord) (start place fields begun out : List ℕ) → start ≡ [] → place ≡ start ++ replicate 21 0 → fields ≡ place ++ fields_bytes base_ts (length rows)
+    → begun ≡ fields ++ records_bytes 0 rows → out ≡ framed_bytes (drop 21 begun) → length rows < 2 ^ 31 → 9 + length (drop 21 begun) < 2 ^ 31 → checksum (drop 21 begun) < 2 ^ 32
     → batches_of out ≡ Ok (stored_from 0 rows)
-written_out base_ts rows start fields summed begun out empty put_fields put_records empty' put_framed few small sum =
-    let whole : summed ≡ summed_bytes base_ts rows = put_records ∙ ap (λ l. l ++ records_bytes 0 rows) (put_fields ∙ ap (λ l. l ++ fields_bytes base_ts (length rows)) empty) in
-    let all : out ≡ batch_bytes base_ts rows = put_framed ∙ ap (λ l. l ++ framed_bytes summed) empty' ∙ ap framed_bytes whole in
+written_out base_ts rows start place fields begun out empty put_place put_fields put_records set few small sum =
+    let whole = behind_head base_ts rows start place fields begun empty put_place put_fields put_records in
     let short : 9 + length (summed_bytes base_ts rows) < 2 ^ 31 = subst (λ l. 9 + length l < 2 ^ 31) whole small in
     let sum' : checksum (summed_bytes base_ts rows) < 2 ^ 32 = subst (λ l. checksum l < 2 ^ 32) whole sum in
-    ap batches_of all ∙ written_reads base_ts rows few short sum'
+    ap batches_of (set ∙ ap framed_bytes whole) ∙ written_reads base_ts rows few short sum'

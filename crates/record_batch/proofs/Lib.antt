@@ -7,3 +7,4 @@ pub mod Appending
 pub mod RoundTrip
 pub mod BatchTrip
 pub mod OffsetLaws
+mod Moving

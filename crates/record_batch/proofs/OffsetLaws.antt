@@ -15,14 +15,14 @@ use Rattle.record_batch.specs.Record.{integer_at, nullable_at, tail_at, none_lef
 use Rattle.record_batch.specs.Batch.{Rises, IsOffset, batch_at, fault_of, fields_of, unless, rows_of, named, joined, framed, frame_at, batches_at}
 
 -- what two readings in turn gave
-onward_ok : {A B : Type 0} (read : Read A) (more : A → Reading → Read B) (b : B × Reading) → onward read more ≡ Ok b → (got : A × Reading) × (read ≡ Ok got) × (more got.0 got.1 ≡ Ok b)
+pub onward_ok : {A B : Type 0} (read : Read A) (more : A → Reading → Read B) (b : B × Reading) → onward read more ≡ Ok b → (got : A × Reading) × (read ≡ Ok got) × (more got.0 got.1 ≡ Ok b)
 onward_ok (Ok got) more b is = (got, refl, is)
 onward_ok (Err place) more b is = absurd (cc is)
 
 -- an offset in the bounds
-record InBounds (low offset : ℤ) : Type 0 where
-  least : low ≤ℤ offset
-  most : offset <ℤ pos (2 ^ 63 - 1)
+pub record InBounds (low offset : ℤ) : Type 0 where
+  pub least : low ≤ℤ offset
+  pub most : offset <ℤ pos (2 ^ 63 - 1)
 
 both : (a b : Bool) → (a && b) ≡ true → (a ≡ true) × (b ≡ true)
 both true b h = (refl, h)
@@ -34,10 +34,10 @@ done got = Ok got
 abbrev failed : {A : Type 0} → ℕ → Read A
 failed place = Err place
 
-ok_of : {A : Type 0} (got end : A × Reading) → done got ≡ Ok end → got ≡ end
+pub ok_of : {A : Type 0} (got end : A × Reading) → done got ≡ Ok end → got ≡ end
 ok_of got end is = cc is
 
-err_is_no_ok : {A : Type 0} (place : ℕ) (got : A × Reading) → failed place ≡ Ok got → ⊥
+pub err_is_no_ok : {A : Type 0} (place : ℕ) (got : A × Reading) → failed place ≡ Ok got → ⊥
 err_is_no_ok place got is = cc is
 
 bounded_ok : (place : ℕ) (low offset : ℤ) (at : Reading) (got : ℤ × Reading) → bounded place low offset at ≡ Ok got → InBounds low got.0
@@ -50,10 +50,10 @@ bounded_ok place low offset at got is =
       | inr outside ↦ absurd (err_is_no_ok _ _ (rw outside at is))
     ]
 
-abbrev the_row : ℤ → Option (List ℕ) → Option (List ℕ) → Stored
+abbrev pub the_row : ℤ → Option (List ℕ) → Option (List ℕ) → Stored
 the_row offset key value = record { offset = offset; key = key; value = value }
 
-abbrev the_reading : ℕ → List ℕ → Reading
+abbrev pub the_reading : ℕ → List ℕ → Reading
 the_reading place left = record { place = place; left = left }
 
 rest_of : (got : Stored × Reading) (said more : Result (List Stored) ℕ) (rows : List Stored) → said ≡ more → before (got.0 ∷ []) said ≡ Ok rows
@@ -61,7 +61,7 @@ rest_of : (got : Stored × Reading) (said more : Result (List Stored) ℕ) (rows
 rest_of got (Ok rest) more rows is whole = (rest, sym is, cc whole)
 rest_of got (Err place) more rows is whole = absurd (cc whole)
 
-named_ok : (said : Result (List Stored) ℕ) (rows : List Stored) → named said ≡ Ok rows → said ≡ Ok rows
+pub named_ok : (said : Result (List Stored) ℕ) (rows : List Stored) → named said ≡ Ok rows → said ≡ Ok rows
 named_ok (Ok got) rows is = let same : got ≡ rows = cc is in ap (λ r. Ok r) same
 named_ok (Err place) rows is = absurd (cc is)
 
@@ -78,7 +78,7 @@ offset_ok base low at got is =
     let third = onward_ok {A = ℤ} {B = ℤ} (integer_at q) (λ delta behind. bounded q.place low (base +ℤ delta) behind) got second.2 in
     bounded_ok q.place low (base +ℤ third.0.0) third.0.1 got third.2
 
-abbrev with_fields : ℤ → Reading → Read Stored
+abbrev pub with_fields : ℤ → Reading → Read Stored
 with_fields offset r = onward (nullable_at r) (λ key q. onward (nullable_at q) (λ value p. onward (tail_at p) (λ done end. Ok (record { offset = offset; key = key; value = value }, end))))
 
 fields_ok : (offset : ℤ) (at : Reading) (got : Stored × Reading) → with_fields offset at ≡ Ok got → got.0.offset ≡ offset
@@ -117,7 +117,7 @@ record_ok base low at got is =
     let first = onward_ok {A = ℤ} {B = Stored} (integer_at at) (body_of at.place base low) got is in
     body_of_ok at.place base low first.0.0 first.0.1 got first.2
 
-chain_ok : (read : Read Stored) (more : Stored → Reading → Result (List Stored) ℕ) (rows : List Stored) → chain read more ≡ Ok rows
+pub chain_ok : (read : Read Stored) (more : Stored → Reading → Result (List Stored) ℕ) (rows : List Stored) → chain read more ≡ Ok rows
     → (got : Stored × Reading) × (rest : List Stored) × (read ≡ Ok got) × (more got.0 got.1 ≡ Ok rest) × (got.0 ∷ rest ≡ rows)
 chain_ok (Ok got) more rows is = let rest = rest_of got (more got.0 got.1) (more got.0 got.1) rows refl is in (got, rest.0, refl, rest.1, rest.2)
 chain_ok (Err place) more rows is = absurd (cc is)
@@ -133,7 +133,7 @@ rows_rise : (place : ℕ) (count base : ℤ) (at : Reading) (rows : List Stored)
 rows_rise place (pos n) base at rows is = records_rise n base (pos 0) at rows (named_ok _ rows is)
 rows_rise place (negsuc n) base at rows is = absurd (cc is)
 
-unless_ok : (fault : Option BatchFault) (said : Result (List Stored) BatchFault) (rows : List Stored) → unless fault said ≡ Ok rows → said ≡ Ok rows
+pub unless_ok : (fault : Option BatchFault) (said : Result (List Stored) BatchFault) (rows : List Stored) → unless fault said ≡ Ok rows → said ≡ Ok rows
 unless_ok None said rows is = is
 unless_ok (Some fault) said rows is = absurd (cc is)
 

@@ -3,3 +3,4 @@ pub mod Record
 pub mod Seen
 pub mod Batch
 pub mod Written
+pub mod Moved

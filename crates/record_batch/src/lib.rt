@@ -1,12 +1,14 @@
 //! Record batches of format 2, read and written.
 #![tactic(auto)]
 
+mod base;
 mod fault;
 mod laws;
 mod read;
 mod record;
 mod write;
 
+pub use base::set_base_offset;
 pub use fault::BatchFault;
 pub use laws::offsets_of_a_batch_rise;
 pub use read::read_batches;

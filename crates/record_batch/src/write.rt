@@ -1,5 +1,5 @@
 //! Writes a batch.
-ghost use Rattle.std.specs.Prelude.{ℕ, pos, ◌≡◌, ◌<◌, ◌≤◌, ◌+◌, ◌^◌, ◌++◌, length, IfOk, OnOk};
+ghost use Rattle.std.specs.Prelude.{ℕ, pos, ◌≡◌, ◌<◌, ◌≤◌, ◌+◌, ◌^◌, ◌++◌, length, drop, IfOk, OnOk};
 ghost use Rattle.record_batch.specs.Written.{batch_bytes, body_bytes, fields_bytes, framed_bytes, head_bytes, nullable_bytes, producer_bytes, record_bytes, records_bytes, stamps_bytes, stored_from};
 ghost use Rattle.record_batch.specs.Batch.{batches_of};
 ghost use Rattle.wire_prim.specs.Crc.{checksum};
@@ -7,7 +7,9 @@ ghost use Rattle.wire_prim.specs.Crc.{checksum};
 use broker_link::NewRecord;
 use gate_io::{Items, Want};
 use std::alloc::Global;
-use wire_prim::{crc32c, put_int8, put_int16, put_int32, put_int64, put_varint, put_varlong};
+use wire_prim::{
+    crc32c, put_int8, put_int16, put_int32, put_int64, put_varint, put_varlong, varint_len,
+};
 
 fn put(out: &mut Vec<u8>, piece: &[u8]) -> Result<(), Want>
     ensures { OnOk result (out.new.items ≡ out.old.items ++ piece.now) }
@@ -52,20 +54,43 @@ fn put_body(out: &mut Vec<u8>, delta: i32, row: &NewRecord) -> Result<(), Want>
     put_varint(out, 0)
 }
 
-fn put_record(alloc: Global, out: &mut Vec<u8>, delta: usize, row: &NewRecord) -> Result<(), Want>
-    ensures { OnOk result (out.new.items ≡ out.old.items ++ record_bytes delta row.now) }
+// How many bytes a key or a value has, with its length.
+fn nullable_len(piece: &Option<Items<u8>>) -> Result<u64, Want>
+    ensures value { IfOk result (λ size. size ≡ length (nullable_bytes piece.now)) }
+    ensures bound { IfOk result (λ size. size < 2 ^ 32) }
 {
-    let mut body = Vec::new(alloc);
-    put_body(&mut body, size_of(delta)?, row)?;
-    put_varint(out, size_of(body.len())?)?;
-    put(out, body.as_slice())
+    match piece {
+        Some(piece) => {
+            let size = size_of(piece.len())?;
+            Ok(varint_len(size) as u64 + size as u64)
+        }
+        None => Ok(1),
+    }
 }
 
-fn put_records(alloc: Global, out: &mut Vec<u8>, rows: &[NewRecord]) -> Result<(), Want>
+// How many bytes the body of a record has.
+fn body_len(delta: i32, row: &NewRecord) -> Result<i32, Want>
+    ensures { (n : ℕ) → delta ≡ pos n
+        → IfOk result (λ size. size ≡ pos (length (body_bytes n row.now))) }
+{
+    let key = nullable_len(&row.key)?;
+    let value = nullable_len(&row.value)?;
+    size_of((3 + varint_len(delta) as u64 + key + value) as usize)
+}
+
+fn put_record(out: &mut Vec<u8>, delta: usize, row: &NewRecord) -> Result<(), Want>
+    ensures { OnOk result (out.new.items ≡ out.old.items ++ record_bytes delta row.now) }
+{
+    let delta = size_of(delta)?;
+    put_varint(out, body_len(delta, row)?)?;
+    put_body(out, delta, row)
+}
+
+fn put_records(out: &mut Vec<u8>, rows: &[NewRecord]) -> Result<(), Want>
     ensures { OnOk result (out.new.items ≡ out.old.items ++ records_bytes 0 rows.now) }
 {
     for (delta, row) in rows.iter().enumerate() {
-        put_record(alloc, out, delta, row)?;
+        put_record(out, delta, row)?;
     }
     Ok(())
 }
@@ -110,16 +135,56 @@ fn put_head(out: &mut Vec<u8>, size: i32) -> Result<(), Want>
     put_int8(out, 2)
 }
 
-fn put_framed(out: &mut Vec<u8>, summed: &[u8]) -> Result<(), Want>
-    ensures ok { OnOk result (out.new.items ≡ out.old.items ++ framed_bytes summed.now) }
-    ensures fits { OnOk result (9 + length summed.now < 2 ^ 31) }
+// The length, the checksum and what stands between them, before the bytes that the checksum is of.
+fn frame_head(alloc: Global, summed: &[u8]) -> Result<Vec<u8>, Want>
+    ensures ok { IfOk result (λ head. head.items ++ summed.now ≡ framed_bytes summed.now) }
+    ensures size { IfOk result (λ head. length head.items ≡ 21) }
+    ensures fits { IfOk result (λ _. 9 + length summed.now < 2 ^ 31) }
     ensures sum { checksum summed.now < 2 ^ 32 }
 {
     let sum = crc32c(summed);
     let size = size_of(summed.len().saturating_add(9))?;
-    put_head(out, size)?;
-    put_int32(out, sum.cast_signed())?;
-    put(out, summed)
+    let Ok(mut head) = Vec::with_capacity(alloc, 21) else {
+        return Err(Want);
+    };
+    put_head(&mut head, size)?;
+    put_int32(&mut head, sum.cast_signed())?;
+    Ok(head)
+}
+
+// Sets the first 21 bytes, which stand before what the checksum is of.
+fn set_front(alloc: Global, out: &mut [u8]) -> Result<(), Want>
+    requires { 21 ≤ length out.now }
+    ensures len { length out.new ≡ length out.old }
+    ensures ok { OnOk result (out.new ≡ framed_bytes (drop 21 out.old)) }
+    ensures fits { OnOk result (9 + length (drop 21 out.old) < 2 ^ 31) }
+    ensures sum { checksum (drop 21 out.old) < 2 ^ 32 }
+{
+    let (place, summed) = out.split_at_mut(21);
+    let head = frame_head(alloc, summed)?;
+    place.copy_from_slice(head.as_slice());
+    Ok(())
+}
+
+fn set_head(alloc: Global, out: &mut Vec<u8>) -> Result<(), Want>
+    requires { 21 ≤ length out.now.items }
+    ensures ok { OnOk result (out.new.items ≡ framed_bytes (drop 21 out.old.items)) }
+    ensures fits { OnOk result (9 + length (drop 21 out.old.items) < 2 ^ 31) }
+    ensures sum { checksum (drop 21 out.old.items) < 2 ^ 32 }
+{
+    set_front(alloc, out.as_mut_slice())
+}
+
+// Room for a batch: 61 bytes, and each record with its length.
+fn room_of(rows: &[NewRecord]) -> usize {
+    let mut room = 61usize;
+    for row in rows {
+        let key = nullable_len(&row.key).unwrap_or(0);
+        let value = nullable_len(&row.value).unwrap_or(0);
+        // Two varints have at most 5 bytes each.
+        room = room.saturating_add((13 + key + value) as usize);
+    }
+    room
 }
 
 /// A batch of the rows at the offsets from 0 on, all at one timestamp.
@@ -128,12 +193,12 @@ pub fn write_batch(alloc: Global, rows: &[NewRecord], base_ts: i64) -> Result<Ve
     ensures bytes { IfOk result (λ out. out.items ≡ batch_bytes base_ts rows.now) }
     ensures reads { IfOk result (λ out. batches_of out.items ≡ Ok (stored_from 0 rows.now)) }
 {
-    let mut summed = Vec::new(alloc);
-    put_fields(&mut summed, base_ts, rows.len())?;
-    put_records(alloc, &mut summed, rows)?;
-    let Ok(mut out) = Vec::with_capacity(alloc, summed.len().saturating_add(21)) else {
+    let Ok(mut out) = Vec::with_capacity(alloc, room_of(rows)) else {
         return Err(Want);
     };
-    put_framed(&mut out, summed.as_slice())?;
+    put(&mut out, &[0; 21])?; // set when the rest is known
+    put_fields(&mut out, base_ts, rows.len())?;
+    put_records(&mut out, rows)?;
+    set_head(alloc, &mut out)?;
     Ok(out)
 }

@@ -87,6 +87,7 @@ module _ {S E : Type 0} where
     value_stands = l.value_stands;
     value_root = l.rooted;
     counted = l.counted;
+    few = l.few;
     each = λ k d h.
         let p = get_or ps k d in
         let q = ⊎_elim (λ (y : ⊥). absurd y) (λ (y : In (records m.0) (p.number, seen p)). l.all_mine p.number (seen p) y) (g.all p (In-at ps k d h)) in (q.0, sym q.1);

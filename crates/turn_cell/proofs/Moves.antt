@@ -83,6 +83,7 @@ module _ {S E : Type 0} (stands : S → List E → Type 0) (caller : E → ℕ) 
         order = c.order;
         made = c.made;
         room = (let t = total-set (λ (u : View S E). u.left) s.views id v w at in let a = r.room in let b = c.room in omega arith);
+        bound = (let t = total-set (λ (u : View S E). u.left) s.views id v w at in let a = r.bound in let b = c.room in omega arith);
         parts = (let t = total-set (λ (u : View S E). u.parts) s.views id v w at in let a = r.parts in let b = c.parts in omega arith);
         fits = λ j u h. ⊎_elim
             (λ (x : (j ≡ id) × (w ≡ u)). subst (FitsAt after ws) x.1 c.mine)

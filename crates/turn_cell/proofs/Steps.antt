@@ -1,5 +1,5 @@
 -- Each step of a seat keeps the rule.
-use Rattle.std.proofs.Common.{◌≡◌, ◌≢◌, ◌⊎◌, inl, inr, ⊎_elim, ℕ, zero, suc, ◌+◌, ◌-◌, ◌%◌, ◌^◌, ◌<◌, ◌≤◌, List, [], ◌∷◌, ◌++◌, map, length, get_or, replicate, set, Option, Some, None, option_map, Bool, true, false, true≢false, eqb, refl, sym, ap, ◌∙◌, subst, arith, length-append, append-nil, length-set, get_or-set_same, eq-eqb, ne_eqb}
+use Rattle.std.proofs.Common.{◌≡◌, ◌≢◌, ◌⊎◌, inl, inr, ⊎_elim, ℕ, zero, suc, ◌+◌, ◌*◌, ◌-◌, ◌%◌, ◌^◌, ◌<◌, ◌≤◌, List, [], ◌∷◌, ◌++◌, map, length, get_or, replicate, set, Option, Some, None, option_map, Bool, true, false, true≢false, eqb, refl, sym, ap, ◌∙◌, subst, arith, length-append, append-nil, length-set, get_or-set_same, eq-eqb, ne_eqb}
 use Rattle.std.proofs.lemmas.List.{get_or-set_other, set-get_or}
 use mathlib.Core.List.{map-append}
 use mathlib.Core.Logic.{dite}
@@ -164,9 +164,15 @@ module _ {S E : Type 0} (stands : S → List E → Type 0) (caller : E → ℕ) 
       (q.0, subst (λ k. 0 < k) (sym pa) q.1, subst (λ z. IsPrefixOf z w.seen) o.1 (prefix-refl w.seen), ap (entries_by caller n) (sym se ∙ o.1)))
       (In-cases w.taken (own w.number w.seen) (n, l) i)
 
-  entered : (s : St) (r : R s) (v : View S E) (k : Kept S E) → F r.log (get_or s.words 0 0) (get_or s.words 1 0) (get_or s.words 2 0) v → stands k.value r.log → same first_root k.value
+  entered : (s : St) (r : R s) (v : View S E) (k : Kept S E) → F r.log (get_or s.words 0 0) (get_or s.words 1 0) (get_or s.words 2 0) v → stands k.value r.log → same first_root k.value → length r.log < all_passes * turns_of_a_pass
       → Entered stands caller same v r.log k.value
-  entered s r v k f st rt = (f.prefix, st, (λ x h. subst (λ z. same z k.value) (sym (f.rooted x h).0) rt), (λ n h. (f.known n v.seen (has_own v n h)).3))
+  entered s r v k f st rt few = (
+    f.prefix,
+    st,
+    (λ x h. subst (λ z. same z k.value) (sym (f.rooted x h).0) rt),
+    (λ n h. (f.known n v.seen (has_own v n h)).3),
+    (λ x n h p. subst (λ z. length r.log < z * turns_of_a_pass) (sym (f.rooted x h).1 ∙ p) few),
+  )
 
   pub draws : (slots id n : ℕ) (me : Seated S E) → me.0.ticket ≡ None → me.0.in_turn ≡ false → me.0.number ≡ Some n → 0 < me.0.left
       → Allows R slots id me 0 (λ x. (x + 1) % 2 ^ 64) (drew (step slots 0 1 0 none) me)
@@ -303,7 +309,7 @@ module _ {S E : Type 0} (stands : S → List E → Type 0) (caller : E → ℕ) 
               rooted = f.rooted;
             })
             refl refl refl refl (at_less s.homes 0 (some (Some k)) h.1) r.wide refl refl (omega arith) (omega arith) (λ t e. inl e) (λ t a b. inl (a, b, λ e. e))),
-        (omega arith, (λ _. (k, r.log, refl, entered s r v k f h.2 h.3)), λ not. absurd (not tick)),
+        (omega arith, (λ _. (k, r.log, refl, entered s r v k f h.2 h.3 (let d = f.drawn x tick in let a = r.serving in let b = r.bound in omega (arith, d.1, a, b)))), λ not. absurd (not tick)),
       )
   looks_at slots id me out s r at (no not) =
       let v = me.0 in
@@ -369,7 +375,7 @@ module _ {S E : Type 0} (stands : S → List E → Type 0) (caller : E → ℕ) 
             refl refl refl refl (at_less s.homes 0 (some (Some k)) h.1) (omega (arith, length-set s.words 0 new, r.wide)) w1 w2 (omega arith) (omega arith)
             (λ t e. inr (λ j u here tick. let e' : x ≡ t = some_same x t e in let d = (r.fits j u here).drawn t tick in omega (arith, d.1)))
             (λ t a b. dite (ℕ_discrete t x) (λ e. inr (ap Some (sym e))) (λ ne. inl (omega arith, omega arith, λ h. absurd (not_some t (sym blank ∙ h)))))),
-        ((λ _. (k, r.log, refl, entered s r v k f h.2 h.3)), λ not. absurd (not hit)),
+        ((λ _. (k, r.log, refl, entered s r v k f h.2 h.3 (let a = r.serving in let b = r.bound in omega (arith, a, b)))), λ not. absurd (not hit)),
       ))
       (λ miss.
       let w : View S E = record v { tries = v.tries + 1; tried = x } in (
@@ -593,6 +599,7 @@ module _ {S E : Type 0} (stands : S → List E → Type 0) (caller : E → ℕ) 
         order = r.order;
         made = r.made;
         room = (let a = total-set (λ (u : View S E). u.left) s.views id v (cut_from v) at in let b = total-snoc (λ (u : View S E). u.left) (set s.views id (cut_from v)) (cut v) in let c = r.room in omega arith);
+        bound = (let a = total-set (λ (u : View S E). u.left) s.views id v (cut_from v) at in let b = total-snoc (λ (u : View S E). u.left) (set s.views id (cut_from v)) (cut v) in let c = r.bound in omega arith);
         parts = (let a = total-set (λ (u : View S E). u.parts) s.views id v (cut_from v) at in let b = total-snoc (λ (u : View S E). u.parts) (set s.views id (cut_from v)) (cut v) in let c = r.parts in omega arith);
         fits = λ j u h. ⊎_elim
             (λ (a : get_elem? (set s.views id (cut_from v)) j ≡ some u). ⊎_elim
@@ -712,6 +719,7 @@ module _ {S E : Type 0} (stands : S → List E → Type 0) (caller : E → ℕ) 
           order = r.order;
           made = r.made;
           room = (let a = total-set (λ (u : View S E). u.left) s.views id v (merged v w) at in let b = total-set (λ (u : View S E). u.left) first other w spent there2 in let c = r.room in omega arith);
+          bound = (let a = total-set (λ (u : View S E). u.left) s.views id v (merged v w) at in let b = total-set (λ (u : View S E). u.left) first other w spent there2 in let c = r.bound in omega arith);
           parts = (let a = total-set (λ (u : View S E). u.parts) s.views id v (merged v w) at in let b = total-set (λ (u : View S E). u.parts) first other w spent there2 in let c = r.parts in omega arith);
           fits = λ j u h. ⊎_elim
               (λ (a : (j ≡ other) × (spent ≡ u)). subst F' a.1 (record {
@@ -774,6 +782,7 @@ module _ {S E : Type 0} (stands : S → List E → Type 0) (caller : E → ℕ) 
         order = omega arith;
         made = omega arith;
         room = omega arith;
+        bound = omega arith;
         parts = omega arith;
         fits = λ j u h. subst (F [] 0 0 0) (only j u h) (record {
           prefix = ([], refl);
@@ -842,6 +851,7 @@ module _ {S E : Type 0} (stands : S → List E → Type 0) (caller : E → ℕ) 
           value_stands = c.2;
           rooted = c.3;
           counted = sym (get_word ws 1 turns word) ∙ sym (ap (λ l. get_or l 1 0) last.2) ∙ c.4;
+          few = (let r = last.1.0 in let o = r.order in let b = r.bound in let t = ap (λ l. get_or l 1 0) last.2 ∙ get_word ws 1 turns word in omega (arith, o, b, t));
           all_mine = c.5;
           named = c.6;
         },

@@ -1,23 +1,24 @@
 -- What the calls conclude from what their steps told.
-use Rattle.std.proofs.Common.{◌≡◌, ℕ, ◌+◌, List, [], ◌∷◌, ◌++◌, Option, Some, None, false, sym, ap, ◌∙◌, subst}
+use Rattle.std.proofs.Common.{◌≡◌, ℕ, ◌+◌, ◌*◌, ◌<◌, ◌≤◌, List, [], ◌∷◌, ◌++◌, length, Option, Some, None, false, sym, ap, ◌∙◌, subst, arith}
 use Rattle.atomic_table.specs.Table.{Step}
 use Rattle.turn_cell.specs.declared.rule.Kept.{Kept}
 use Rattle.turn_cell.specs.declared.pass.Pass.{Pass}
 use Rattle.turn_cell.specs.declared.cell.TurnCell.{TurnCell}
-use Rattle.turn_cell.specs.Rules.{IsPrefixOf, Seated, entries_by, looked, tried, passed, IsEntered, IsSameButLooks}
+use Rattle.turn_cell.specs.Rules.{IsPrefixOf, turns_of_a_pass, Seated, entries_by, looked, tried, passed, IsEntered, IsSameButLooks}
 use Rattle.turn_cell.proofs.Lists.{by-snoc}
 use Rattle.turn_cell.specs.Turns.{IsInTurn, Finished}
 
 module _ {S E : Type 0} (stands : S → List E → Type 0) (caller : E → ℕ) (same : S → S → Type 0) where
-  pub entered_at : (st : Step (Option (Kept S E))) (before mid after : Seated S E) (found ticket : ℕ) → before.0.ticket ≡ Some ticket → before.1 ≡ [] → IsSameButLooks before mid
+  pub entered_at : (st : Step (Option (Kept S E))) (before mid after : Seated S E) (found ticket : ℕ) → before.0.ticket ≡ Some ticket → before.1 ≡ [] → IsSameButLooks before mid → before.0.looks ≤ mid.0.looks
       → looked stands caller same st mid found after → found ≡ ticket → IsEntered stands caller same before after
-  entered_at st before mid after found ticket tick empty is told same_ticket =
+  entered_at st before mid after found ticket tick empty is more told same_ticket =
       let t = told.1 (ap (λ m. m.0.ticket) is ∙ tick ∙ ap Some (sym same_ticket)) in
       let k = t.0 in
       let h = t.1 in
       let e = t.2 in
       let root : mid.0.root ≡ before.0.root = ap (λ m. m.0.root) is in
       let number : mid.0.number ≡ before.0.number = ap (λ m. m.0.number) is in
+      let passes : mid.0.passes ≡ before.0.passes = ap (λ m. m.0.passes) is in
       let seen : mid.0.seen ≡ before.0.seen = ap (λ m. m.0.seen) is in
       let seen' : after.0.seen ≡ h = ap (λ m. m.0.seen) e in record {
         kept = k;
@@ -32,6 +33,10 @@ module _ {S E : Type 0} (stands : S → List E → Type 0) (caller : E → ℕ) 
         stands_now = subst (stands k.value) (sym seen') t.3.1;
         rooted = λ r x. t.3.2 r (root ∙ x);
         same_mine = λ n x. ap (entries_by caller n) seen' ∙ t.3.3 n (number ∙ x) ∙ ap (entries_by caller n) seen;
+        same_passes = ap (λ m. m.0.passes) e ∙ passes;
+        few = λ r n x y. subst (λ l. length l < n * turns_of_a_pass) (sym seen') (t.3.4 r n (root ∙ x) (passes ∙ y));
+        looks = (let a = ap (λ (m : Seated S E). m.0.looks) e in omega (arith, a, more));
+        tries = (let a = ap (λ (m : Seated S E). m.0.tries) e in let b = ap (λ (m : Seated S E). m.0.tries) is in omega (arith, a, b));
       }
 
   not_some : (n : ℕ) → None ≡ Some n → ⊥
@@ -54,6 +59,7 @@ module _ {S E : Type 0} (stands : S → List E → Type 0) (caller : E → ℕ) 
             parts = ap (λ m. m.0.parts) z ∙ o.parts;
             left_is = ap (λ m. m.0.left) z ∙ o.left_is ∙ sym left;
             root = ap (λ m. m.0.root) z ∙ o.root;
+            passes_is = ap (λ m. m.0.passes) z ∙ o.passes_is;
             held = ap (λ m. m.1) z;
           },
         );
@@ -61,6 +67,7 @@ module _ {S E : Type 0} (stands : S → List E → Type 0) (caller : E → ℕ) 
         left = left;
         same_seen = ap (λ m. m.0.seen) z;
         more_mine = ap (λ n. entries_by caller n q.seat.me.0.seen) number ∙ ap (λ m. entries_by caller p.number m.0.seen) z ∙ by-snoc caller p.number p.seat.me.0.seen e names;
+        same_looks = (ap (λ m. m.0.looks) z, ap (λ m. m.0.tries) z);
       }
 
   pub held_slot : (held : List (ℕ × Option (Kept S E))) (x : Option (Kept S E)) → held ≡ (0, x) ∷ [] → held ≡ (0, x) ∷ Rattle.atomic_table.specs.Table.rest held

@@ -23,7 +23,7 @@ module _ {S E : Type 0} where
 
   -- What holds between any two steps, of one history, `log`. The words are `next`, `serving`, which is its length, and `made`, the count of numbers given.
   -- Tickets are the numbers from `serving` to `next`, each in one view; no two views share a number; each entry names a number that some view has or took over.
-  -- While nobody is in a turn the slot is at home, and its value stands for the history; else it is out; no other slot is ever used. What is left to draw keeps `next` below 2 ^ 63.
+  -- While nobody is in a turn the slot is at home, and its value stands for the history; else it is out; no other slot is ever used. What is left to draw keeps `next` below 2 ^ 63, and at most the turns of all passes.
   pub record Rule (stands : S → List E → Type 0) (caller : E → ℕ) (same : S → S → Type 0) (first_root : S) (all_passes : ℕ) (s : State (Option (Kept S E)) (View S E)) : Type 0 where
     pub log : List E
     pub wide : 3 ≤ length s.words
@@ -31,6 +31,7 @@ module _ {S E : Type 0} where
     pub order : slice_index_or s.words 1 0 ≤ slice_index_or s.words 0 0
     pub made : slice_index_or s.words 2 0 ≤ all_passes
     pub room : slice_index_or s.words 0 0 + total (λ (v : View S E). v.left) s.views < 2 ^ 63
+    pub bound : slice_index_or s.words 0 0 + total (λ (v : View S E). v.left) s.views ≤ all_passes * turns_of_a_pass
     pub parts : total (λ (v : View S E). v.parts) s.views ≡ all_passes
     pub fits : (j : ℕ) (v : View S E) → get_elem? s.views j ≡ some v → Fits caller log first_root all_passes (slice_index_or s.words 0 0) (slice_index_or s.words 1 0) (slice_index_or s.words 2 0) v
     pub tickets : (i j t : ℕ) (v w : View S E) → get_elem? s.views i ≡ some v → get_elem? s.views j ≡ some w → v.ticket ≡ Some t → w.ticket ≡ Some t → i ≡ j
@@ -59,9 +60,13 @@ module _ {S E : Type 0} where
     pub stands_now : stands kept.value after.0.seen
     pub rooted : (r : S) → before.0.root ≡ Some r → same r kept.value
     pub same_mine : (n : ℕ) → before.0.number ≡ Some n → entries_by caller n after.0.seen ≡ entries_by caller n before.0.seen
+    pub same_passes : after.0.passes ≡ before.0.passes
+    pub few : (r : S) (passes : ℕ) → before.0.root ≡ Some r → before.0.passes ≡ passes → length after.0.seen < passes * turns_of_a_pass
+    pub looks : before.0.looks ≤ after.0.looks
+    pub tries : before.0.tries ≤ after.0.tries
 
   -- a seat between two turns
-  pub record Rests (first_root : S) (number left : ℕ) (m : Seated S E) : Type 0 where
+  pub record Rests (first_root : S) (passes number left : ℕ) (m : Seated S E) : Type 0 where
     pub number_is : m.0.number ≡ Some number
     pub ticket : m.0.ticket ≡ None
     pub out : m.0.in_turn ≡ false
@@ -69,26 +74,29 @@ module _ {S E : Type 0} where
     pub parts : m.0.parts ≡ 1
     pub left_is : m.0.left ≡ left
     pub root : m.0.root ≡ Some first_root
+    pub passes_is : m.0.passes ≡ passes
     pub held : m.1 ≡ []
 
   -- a seat in a turn, which has the value
-  pub record InTurn (first_root : S) (number left : ℕ) (m : Seated S E) : Type 0 where
+  pub record InTurn (first_root : S) (passes number left : ℕ) (m : Seated S E) : Type 0 where
     pub number_is : m.0.number ≡ Some number
     pub in_turn : m.0.in_turn ≡ true
     pub taken : m.0.taken ≡ []
     pub parts : m.0.parts ≡ 1
     pub left_is : m.0.left ≡ left
     pub root : m.0.root ≡ Some first_root
+    pub passes_is : m.0.passes ≡ passes
     pub held : m.1 ≡ (0, None) ∷ []
 
   -- the seat from which passes are split, while n of its parts are left
-  pub record IsOrigin (first_root : S) (n : ℕ) (m : Seated S E) : Type 0 where
+  pub record IsOrigin (first_root : S) (passes n : ℕ) (m : Seated S E) : Type 0 where
     pub number : m.0.number ≡ None
     pub ticket : m.0.ticket ≡ None
     pub out : m.0.in_turn ≡ false
     pub taken : m.0.taken ≡ []
     pub seen : m.0.seen ≡ []
     pub root : m.0.root ≡ Some first_root
+    pub passes_is : m.0.passes ≡ passes
     pub parts : m.0.parts ≡ n
     pub left : m.0.left ≡ n * turns_of_a_pass
     pub held : m.1 ≡ []
@@ -98,5 +106,6 @@ module _ {S E : Type 0} where
     pub value_stands : stands y v.seen
     pub rooted : same first_root y
     pub counted : turns ≡ length v.seen
+    pub few : turns ≤ all_passes * turns_of_a_pass
     pub all_mine : (n : ℕ) (l : List E) → In (records v) (n, l) → IsPrefixOf l v.seen × (entries_by caller n v.seen ≡ entries_by caller n l)
     pub named : (e : E) → In v.seen e → In (numbers v) (caller e) × (caller e < all_passes)

@@ -1,5 +1,5 @@
 -- What callers say of a cell, its passes and its turns.
-use Rattle.std.specs.Prelude.{◌≡◌, ◌⊎◌, ℕ, ◌+◌, ◌<◌, List, [], ◌∷◌, ◌++◌, length, map, None, slice_index_or}
+use Rattle.std.specs.Prelude.{◌≡◌, ◌⊎◌, ℕ, ◌+◌, ◌*◌, ◌<◌, ◌≤◌, List, [], ◌∷◌, ◌++◌, length, map, None, slice_index_or}
 use Rattle.turn_cell.specs.declared.pass.Pass.{Pass}
 use Rattle.turn_cell.specs.declared.cell.TurnCell.{TurnCell}
 use Rattle.turn_cell.specs.declared.turn.Busy.{Busy}
@@ -12,6 +12,10 @@ module _ {S E : Type 0} where
   -- the value that the cell was made with, of which no turn changes the root
   abbrev pub root_of : TurnCell S E → S
   root_of c = c.table.shared.key.root.value
+
+  -- how many passes were made with the cell
+  abbrev pub passes_of : TurnCell S E → ℕ
+  passes_of c = c.passes
 
   -- the number under which the entries of a pass stand
   abbrev pub number_of : Pass S E → ℕ
@@ -54,11 +58,11 @@ module _ {S E : Type 0} where
 
   -- a pass of this cell, with no turn under way
   abbrev pub IsPassOf : TurnCell S E → Pass S E → Type 0
-  IsPassOf c p = (p.seat.table_id ≡ c.table.shared.table_id) × Rests (root_of c) (number_of p) (left_of p) p.seat.me
+  IsPassOf c p = (p.seat.table_id ≡ c.table.shared.table_id) × Rests (root_of c) (passes_of c) (number_of p) (left_of p) p.seat.me
 
   -- a pass of this cell whose turn it is
   abbrev pub IsInTurn : TurnCell S E → Pass S E → Type 0
-  IsInTurn c p = (p.seat.table_id ≡ c.table.shared.table_id) × InTurn (root_of c) (number_of p) (left_of p) p.seat.me
+  IsInTurn c p = (p.seat.table_id ≡ c.table.shared.table_id) × InTurn (root_of c) (passes_of c) (number_of p) (left_of p) p.seat.me
 
   -- The turn of a pass began, and y is the value
   pub record Turned (stands : S → List E → Type 0) (caller : E → ℕ) (same : S → S → Type 0) (c : TurnCell S E) (before after : Pass S E) (y : S) : Type 0 where
@@ -69,6 +73,8 @@ module _ {S E : Type 0} where
     pub same_mine : mine caller after ≡ mine caller before
     pub value_stands : stands y (seen after)
     pub value_root : same (root_of c) y
+    pub few : length (seen after) < passes_of c * turns_of_a_pass
+    pub more_looks : (looks before ≤ looks after) × (tries before ≤ tries after)
 
   -- The turn was another's: `next` stood above `serving` as this call saw them
   pub record Refused (c : TurnCell S E) (before after : Pass S E) (b : Busy) : Type 0 where
@@ -87,10 +93,7 @@ module _ {S E : Type 0} where
     pub left : left_of after ≡ left_of before
     pub same_seen : seen after ≡ seen before ++ e ∷ []
     pub more_mine : mine caller after ≡ mine caller before ++ e ∷ []
-
-  -- how many passes were made with the cell
-  abbrev pub passes_of : TurnCell S E → ℕ
-  passes_of c = c.passes
+    pub same_looks : (looks after ≡ looks before) × (tries after ≡ tries before)
 
   -- a pass that has taken no turn
   pub record IsFresh (c : TurnCell S E) (n : ℕ) (p : Pass S E) : Type 0 where
@@ -118,5 +121,6 @@ module _ {S E : Type 0} where
     pub value_stands : stands left.value history
     pub value_root : same (root_of c) left.value
     pub counted : left.turns ≡ length history
+    pub few : left.turns ≤ passes_of c * turns_of_a_pass
     pub each : (k : ℕ) (d : Pass S E) → k < length ps → IsPrefixOf (seen (slice_index_or ps k d)) history × (mine caller (slice_index_or ps k d) ≡ entries_by caller (number_of (slice_index_or ps k d)) history)
     pub named : (k : ℕ) (e : E) → k < length history → (caller (slice_index_or history k e) < passes_of c) × Contains (map number_of ps) (caller (slice_index_or history k e))

@@ -75,10 +75,11 @@ module _ {S E : Type 0} where
   abbrev pub merged : View S E → View S E → View S E
   merged v w = record v { number = None; seen = longer v.seen w.seen; taken = records v ++ records w; parts = v.parts + w.parts; left = v.left + w.left }
 
-  -- the turn begins with a value that stands for all that was then seen
+  -- the turn begins with a value that stands for all that was then seen, which is shorter than all passes can make it
   abbrev pub Entered : (S → List E → Type 0) → (E → ℕ) → (S → S → Type 0) → View S E → List E → S → Type 0
   Entered stands caller same v h y =
       IsPrefixOf v.seen h × stands y h × ((r : S) → v.root ≡ Some r → same r y) × ((n : ℕ) → v.number ≡ Some n → entries_by caller n h ≡ entries_by caller n v.seen)
+      × ((r : S) (passes : ℕ) → v.root ≡ Some r → v.passes ≡ passes → length h < passes * turns_of_a_pass)
 
   -- number: the seat's number is the count that was found, where it was the one expected
   abbrev pub numbered : Step (Option (Kept S E)) → Seated S E → ℕ → Seated S E → Type 0

@@ -52,7 +52,7 @@ impl<S: Stands + Drop> TurnCell<S> {
         requires count { (0 < passes) × (passes < 32768) }
         requires stands { S.stands value [] × S.same_root value value }
         ensures cell { IfOk result (λ r. (root_of r.0 ≡ value) × (passes_of r.0 ≡ passes)) }
-        ensures seat { IfOk result (λ r. (r.1.table_id ≡ r.0.table.shared.table_id) × IsOrigin value passes r.1.me) }
+        ensures seat { IfOk result (λ r. (r.1.table_id ≡ r.0.table.shared.table_id) × IsOrigin value passes passes r.1.me) }
     {
         let about = About {
             root: Snapshot::of(&value),
@@ -71,7 +71,7 @@ impl<S: Stands + Drop> TurnCell<S> {
         mut seat: Place<S, S::Entry>,
         mut room: Vec<Pass<S>>,
     ) -> Result<Vec<Pass<S>>, Want>
-        requires seat { (seat.table_id ≡ self.now.table.shared.table_id) × IsOrigin (root_of self.now) (passes_of self.now) seat.me }
+        requires seat { (seat.table_id ≡ self.now.table.shared.table_id) × IsOrigin (root_of self.now) (passes_of self.now) (passes_of self.now) seat.me }
         requires room { (room.items ≡ []) × (passes_of self.now ≤ vec_capacity room) }
         ensures { IfOk result (λ v. (vec_len v ≡ passes_of self.now) × AreFresh self.now v.items) }
     {

@@ -12,6 +12,12 @@ nine_groups size number few below =
     let most : 128 ^ size ≤ 128 ^ 9 = pow-le-pow_right {n = 128} (omega arith) {i = size} {j = 9} few in
     omega arith
 
+-- eight groups are less than 2^56
+pub eight_groups : (size number : ℕ) → size ≤ 8 → number < 128 ^ size → number < 2 ^ 56
+eight_groups size number few below =
+    let most : 128 ^ size ≤ 128 ^ 8 = pow-le-pow_right {n = 128} (omega arith) {i = size} {j = 8} few in
+    omega arith
+
 pub lead_le : (bytes : List ℕ) → lead bytes ≤ length bytes
 lead_le [] = omega arith
 lead_le (byte ∷ bytes) = elim (cases_Bool (nat_le 128 byte)) [ inl more ↦ rw more (omega (arith, lead_le bytes)) | inr last ↦ rw last (omega arith) ]

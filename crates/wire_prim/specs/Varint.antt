@@ -1,7 +1,8 @@
 -- VARINT and VARLONG: Kafka protocol guide, "Protocol Primitive Types" (zigzag and base 128 as in Protocol Buffers).
-use Rattle.std.specs.Prelude.{ℤ, pos, negsuc, ℕ, zero, suc, ◌≡◌, ◌+◌, ◌*◌, ◌/◌, ◌%◌, ◌^◌, ◌≤◌, List, [], ◌∷◌, length, take, drop, if◌then◌else◌, nat_le, nat_lt, ◌==◌, Ok, Err}
+use Rattle.std.specs.Prelude.{ℤ, pos, negsuc, ℕ, zero, suc, ◌≡◌, ◌+◌, ◌*◌, ◌/◌, ◌%◌, ◌^◌, ◌<◌, ◌≤◌, List, [], ◌∷◌, length, take, drop, if◌then◌else◌, nat_le, nat_lt, ◌==◌, Ok, Err}
 use Rattle.wire_prim.specs.declared.error.PrimNo.TheVariants.{Short, TooLong}
 use Rattle.wire_prim.specs.Behind.{Behind, next}
+use Rattle.wire_prim.specs.Reading.{Reading, Takes}
 
 -- 0, -1, 1, -2 are 0, 1, 2, 3
 abbrev pub zigzag : ℤ → ℕ
@@ -34,6 +35,11 @@ pub record IsVarint (limit : ℕ) (value : ℤ) (item : List ℕ) : Type 0 where
 -- the integer at the front
 abbrev pub varint_at : List ℕ → ℤ
 varint_at bytes = unzigzag (grouped (run_of bytes))
+
+-- a byte below 128 stood at the front, and has been read
+pub record IsOneByte (byte : ℕ) (old new : Reading) : Type 0 where
+  pub low : byte < 128
+  pub takes : Takes (byte ∷ []) old new
 
 -- what follows a run of at most so many bytes
 abbrev pub behind_run : ℕ → List ℕ → Behind

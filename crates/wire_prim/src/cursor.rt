@@ -1,12 +1,12 @@
 //! A place in the bytes of a message.
-ghost use Rattle.std.specs.Prelude.{◌≡◌, ◌<◌, ◌≤◌, ◌^◌, suc, pos, length, IfOk, IfSome, OnErr, option_map, string_bytes};
+ghost use Rattle.std.specs.Prelude.{◌≡◌, ◌<◌, ◌≤◌, ◌^◌, suc, pos, length, IfOk, IfNone, IfSome, OnErr, option_map, string_bytes};
 ghost use Rattle.wire_prim.specs.Reading.{Takes};
 ghost use Rattle.wire_prim.specs.Behind.{Answers, AnswersOrWants, behind_bytes, behind_bytes_item, behind_count, behind_int8, behind_int16, behind_int32, behind_int64, behind_nullable_bytes, behind_nullable_count, behind_nullable_string, behind_sized, behind_string, behind_text, count_at, int8_at, int16_at, int32_at, int64_at, nullable_count_at};
-ghost use Rattle.wire_prim.specs.Varint.{IsVarint, behind_run, behind_varint, behind_varlong, lead, run_of, varint_at};
+ghost use Rattle.wire_prim.specs.Varint.{IsOneByte, IsVarint, behind_run, behind_varint, behind_varlong, lead, run_of, varint_at};
 ghost use Rattle.wire_prim.specs.Item.{bytes_item, count_item, int8_bytes, int16_bytes, int32_bytes, int64_bytes, nullable_bytes_item, nullable_count_item, nullable_string_item, string_item};
 
 use crate::error::PrimNo;
-use crate::varint::{grouped, lead, unzigzag};
+use crate::varint::{few_grouped, grouped, lead, unzigzag};
 use std::alloc::Global;
 use std::marker::Model;
 
@@ -185,6 +185,7 @@ impl<'a> Cursor<'a> {
     /// A text behind its length.
     pub fn string(&mut self, alloc: Global) -> Result<String, PrimNo>
         ensures value { IfOk result (λ text. Takes (string_item (string_bytes text)) self.old self.new) }
+        ensures bound { IfOk result (λ text. length (string_bytes text) < 2 ^ 15) }
         ensures answer { AnswersOrWants result (behind_string self.old.left) self.new.left }
         ensures stays { OnErr result (self.new ≡ self.old) }
     {
@@ -233,6 +234,7 @@ impl<'a> Cursor<'a> {
     pub fn nullable_string(&mut self, alloc: Global) -> Result<Option<String>, PrimNo>
         ensures value { IfOk result (λ text.
             Takes (nullable_string_item (option_map string_bytes text)) self.old self.new) }
+        ensures bound { IfOk result (λ text. IfSome text (λ t. length (string_bytes t) < 2 ^ 15)) }
         ensures answer { AnswersOrWants result (behind_nullable_string self.old.left) self.new.left }
         ensures stays { OnErr result (self.new ≡ self.old) }
     {
@@ -311,8 +313,23 @@ impl<'a> Cursor<'a> {
         Ok(run)
     }
 
-    /// An integer of variable length, which may be longer than it needs within its 5 bytes.
-    pub fn varint(&mut self) -> Result<i32, PrimNo>
+    // The byte of a varint that has no other.
+    fn one_byte(&mut self) -> Option<u8>
+        ensures value { IfSome result (λ byte. IsOneByte byte self.old self.new) }
+        ensures stays { IfNone result (self.new ≡ self.old) }
+    {
+        match self.rest {
+            [byte, rest @ ..] if *byte < 128 => {
+                self.rest = rest;
+                self.place += 1;
+                Some(*byte)
+            }
+            _ => None,
+        }
+    }
+
+    // A VARINT of several bytes.
+    fn long_varint(&mut self) -> Result<i32, PrimNo>
         ensures value { IfOk result (λ value.
             IsVarint 5 value (run_of self.old.left)
             × Takes (run_of self.old.left) self.old self.new) }
@@ -322,15 +339,30 @@ impl<'a> Cursor<'a> {
     {
         let mut ahead = self.copy();
         let run = ahead.run(5)?;
-        let Ok(number) = u32::try_from(grouped(run)) else {
+        let Ok(number) = u32::try_from(few_grouped(run)) else {
             return Err(PrimNo::TooLong);
         };
         *self = ahead;
         Ok(unzigzag(u64::from(number)) as i32)
     }
 
-    /// The same within 10 bytes.
-    pub fn varlong(&mut self) -> Result<i64, PrimNo>
+    /// A VARINT, which may be longer than it needs within its 5 bytes.
+    pub fn varint(&mut self) -> Result<i32, PrimNo>
+        ensures value { IfOk result (λ value.
+            IsVarint 5 value (run_of self.old.left)
+            × Takes (run_of self.old.left) self.old self.new) }
+        ensures at { IfOk result (λ value. value ≡ varint_at self.old.left) }
+        ensures answer { Answers result (behind_varint self.old.left) self.new.left }
+        ensures stays { OnErr result (self.new ≡ self.old) }
+    {
+        match self.one_byte() {
+            Some(byte) => Ok(unzigzag(u64::from(byte)) as i32),
+            None => self.long_varint(),
+        }
+    }
+
+    // A VARLONG of several bytes.
+    fn long_varlong(&mut self) -> Result<i64, PrimNo>
         ensures value { IfOk result (λ value.
             IsVarint 10 value (run_of self.old.left)
             × Takes (run_of self.old.left) self.old self.new) }
@@ -345,5 +377,20 @@ impl<'a> Cursor<'a> {
         };
         *self = ahead;
         Ok(unzigzag(number))
+    }
+
+    /// A VARLONG, which may be longer than it needs within its 10 bytes.
+    pub fn varlong(&mut self) -> Result<i64, PrimNo>
+        ensures value { IfOk result (λ value.
+            IsVarint 10 value (run_of self.old.left)
+            × Takes (run_of self.old.left) self.old self.new) }
+        ensures at { IfOk result (λ value. value ≡ varint_at self.old.left) }
+        ensures answer { Answers result (behind_varlong self.old.left) self.new.left }
+        ensures stays { OnErr result (self.new ≡ self.old) }
+    {
+        match self.one_byte() {
+            Some(byte) => Ok(unzigzag(u64::from(byte))),
+            None => self.long_varlong(),
+        }
     }
 }

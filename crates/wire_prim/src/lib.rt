@@ -17,6 +17,7 @@ pub use put::{
     put_bytes, put_count, put_int8, put_int16, put_int32, put_int64, put_nullable_bytes,
     put_nullable_count, put_nullable_string, put_string, put_varint, put_varlong,
 };
+pub use varint::varint_len;
 
 #[cfg(test)]
 mod tests;

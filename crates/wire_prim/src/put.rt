@@ -143,6 +143,9 @@ fn put_groups(out: &mut Vec<u8>, more: usize, number: u64) -> Result<(), Want>
     ensures ok { OnOk result (out.new.items ≡ out.old.items ++ groups_of more number) }
     ensures stays { OnErr result (out.new.items ≡ out.old.items) }
 {
+    if number < 128 {
+        return put(out, &[number as u8]);
+    }
     let mut groups = [0u8; 10];
     let mut number = number;
     let mut count = 0;

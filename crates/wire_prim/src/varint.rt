@@ -1,6 +1,6 @@
 //! Integers of variable length: zigzag, in groups of seven bits.
 ghost use Rattle.std.specs.Prelude.{◌≡◌, ◌<◌, ◌≤◌, ◌^◌, length, min};
-ghost use Rattle.wire_prim.specs.Varint.{grouped, lead, unzigzag, zigzag};
+ghost use Rattle.wire_prim.specs.Varint.{grouped, lead, unzigzag, varint_bytes, zigzag};
 
 /// How many bytes at the front have the highest bit, at most so many.
 pub fn lead(bytes: &[u8], limit: usize) -> usize
@@ -13,6 +13,18 @@ pub fn lead(bytes: &[u8], limit: usize) -> usize
         }
     }
     front.len()
+}
+
+/// The number that at most nine groups make.
+pub fn few_grouped(bytes: &[u8]) -> u64
+    requires { length bytes.now ≤ 9 }
+    ensures value { result ≡ grouped bytes.now }
+    ensures bound { result < 128 ^ length bytes.now }
+{
+    match bytes {
+        [] => 0,
+        [byte, rest @ ..] => u64::from(*byte % 128) + 128 * few_grouped(rest),
+    }
 }
 
 /// The number that the groups make.
@@ -41,5 +53,19 @@ pub fn zigzag(value: i64) -> u64
         (value.unsigned_abs() - 1) * 2 + 1
     } else {
         value.unsigned_abs() * 2
+    }
+}
+
+/// How many bytes the shortest spelling of a VARINT has.
+pub fn varint_len(value: i32) -> usize
+    ensures value { result ≡ length (varint_bytes value) }
+    ensures few { result ≤ 5 }
+{
+    match zigzag(i64::from(value)) {
+        0..=0x7f => 1,
+        0x80..=0x3fff => 2,
+        0x4000..=0x1f_ffff => 3,
+        0x20_0000..=0xfff_ffff => 4,
+        _ => 5,
     }
 }

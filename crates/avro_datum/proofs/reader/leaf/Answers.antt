@@ -14,5 +14,4 @@ returns-in-Enum c t stands j here inner =
     let s = c.args.schema.now in
     let k = c.args.number in
     let e = subst (λ kind. IsOfKind s c.args.place kind) c.in-Enum.is c.requires.kind in
-    reads_along value_of c.read_symbol.result _ _ (suc k) (sym (ap (λ (u : AvroType). body_at inner u j k) (resolves_is s c.args.place t (enum_ e.0 e.1) stands e.2)))
-    (subst (λ (symbols : List (List ℕ)). Reads value_of c.read_symbol.result (reading.leaf k shapes.symbol (symbol_at k symbols j)) (suc k)) (c.symbols.ensures e.0 e.1 e.2) (c.read_symbol.ensures j here))
+    reads_along value_of c.read_symbol.result _ _ (suc k) (sym (ap (λ (u : AvroType). body_at inner u j k) (resolves_is s c.args.place t (enum_ e.0 e.1) stands e.2))) (c.read_symbol.ensures e.0 e.1 e.2 j here)

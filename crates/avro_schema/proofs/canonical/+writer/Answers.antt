@@ -54,8 +54,8 @@ pub write_type-returns-in_ok-push_head-in-Enum : goal.write_type-returns-in_ok-p
 write_type-returns-in_ok-push_head-in-Enum t c =
     on_ok c.write_symbols.result _ _ (λ e.
     written c.args.nodes.now.items c.args.node c.index-form.result.now (Enum c.in-Enum.name c.in-Enum.symbols) c.requires.before c.requires.inside c.index-form.ensures c.in-Enum.is c.args.text.now c.write_symbols.new.text _ refl
-    (head_and c.args.text.now c.push_head.new.text c.write_symbols.new.text (codes "{\"name\":") (quote c.in-Enum.name) (codes ",\"type\":\"enum\",\"symbols\":[") (symbol_list c.in-Enum.symbols.items)
-    (c.in_ok-push_head-in-Enum.ensures ∙ ap (λ n. c.args.text.now ++ (codes "{\"name\":" ++ (quote n ++ codes ",\"type\":\"enum\",\"symbols\":["))) c.as_str-in-Enum.ensures) e)) c.write_symbols.ensures
+    (head_and c.args.text.now c.push_head.new.text c.write_symbols.new.text (codes "{\"name\":") (quote c.in-Enum.name) (codes ",\"type\":\"enum\",\"symbols\":[") (symbol_list c.in-Enum.symbols)
+    (c.in_ok-push_head-in-Enum.ensures ∙ ap (λ n. c.args.text.now ++ (codes "{\"name\":" ++ (quote n ++ codes ",\"type\":\"enum\",\"symbols\":["))) c.as_str-in-Enum.ensures) (e ∙ ap (λ ss. c.push_head.new.text ++ symbol_list ss) c.as_slice.ensures))) c.write_symbols.ensures
 
 pub write_type-returns-in_ok-push_head-in-Record : goal.write_type-returns-in_ok-push_head-in-Record
 write_type-returns-in_ok-push_head-in-Record t c =

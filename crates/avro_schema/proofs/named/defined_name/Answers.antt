@@ -17,7 +17,7 @@ returns-in-Err-clause-err c = λ ms h. name_refused c.args.canonical c.args.part
 
 pub returns-in-Some-clause-err : goal.returns-in-Some-clause-err
 returns-in-Some-clause-err c = λ ms h.
-    let P : List ℕ → Type 0 = λ n. FirstNamed c.args.parts.now.definitions.items n c.in-Some.field-0 in
+    let P : List ℕ → Type 0 = λ n. FirstNamed c.args.parts.now.definitions n c.in-Some.field-0 in
     redefined c.args.canonical c.args.parts.now c.args.enclosing.now ms c.in-Ok.name c.in-Some.field-0 (c.in-Ok.ensures.ok _ _ (c.member.ensures ms h) (c.member-2.ensures ms h)) (subst P c.as_str.ensures c.in-Some.ensures)
 
 pub returns-then-is_definable-clause-ok : goal.returns-then-is_definable-clause-ok

@@ -1,35 +1,46 @@
-use Rattle.std.proofs.Common.{◌≡◌, ◌<◌, ℕ, List, refl, sym, ap, ◌∙◌, subst, arith}
+use Rattle.std.proofs.Common.{◌≡◌, ◌<◌, ◌++◌, [], ◌∷◌, ℕ, List, Result, OnOk, refl, sym, ap, ◌∙◌, subst, arith}
 use Rattle.std.specs.Prelude.{codes}
 use Rattle.std.proofs.Math.ListN.{drop_of_length-le}
 use Rattle.avro_schema.specs.Names.{namespace_of, are_parts}
 use Rattle.avro_schema.specs.Reading.{reader, last_member}
-use Rattle.avro_schema.specs.Building.{names_of, FieldsSoFar, BranchesSoFar}
+use Rattle.avro_schema.specs.Building.{names_of, names_of_fields, names_of_branches, FieldsSoFar, BranchesSoFar}
+use Rattle.avro_schema.specs.Forms.{types_of}
 use Rattle.avro_schema.specs.declared.parts.Form.TheVariants.{Union, Record}
 use Rattle.avro_schema.specs.declared.parts.Field.{Field}
 use Rattle.avro_schema.proofs.NamedLemmas.{tells_along}
 use Rattle.avro_schema.proofs.ListLemmas.{next_item_at}
 use Rattle.avro_schema.proofs.Outcomes.{why_along}
 use Rattle.avro_schema.proofs.Closing.{named_built, named_inside}
-use Rattle.avro_schema.proofs.FieldLoops.{fields_first, fields_refused, fields_more, fields_done}
+use Rattle.avro_schema.proofs.FieldLoops.{names-push, fields_first, fields_refused, fields_more, fields_done}
 use Rattle.avro_schema.proofs.FieldLoops.{list_there, fields_of_list, fields_along}
-use Rattle.avro_schema.proofs.BranchLoops.{branches_first, branches_refused, branches_more, branch_repeated, branch_made, made_inside}
+use Rattle.avro_schema.proofs.BranchLoops.{branches_first, branches_refused, branches_more, branch_repeated, branch_made, branch_named, made_inside}
+use Rattle.avro_schema.proofs.NameLists.{not_true, not_false}
 use Rattle.avro_schema.proofs.TypeReading as reading
 use Rattle.avro_schema.proofs.PartReading.{union_tells, union_why, record_why, record_tells}
+use Rattle.avro_schema.specs.declared.error.SchemaNo.{SchemaNo}
 use Rattle.avro_schema.proofs.reader.+reader.Goals as goal
+use Rattle.avro_schema.proofs.reader.+reader.Goals.{read_field-in-Ok-push, read_field-in-Err-push}
 
 -- ---- branches
 
-pub read_branch-is_repeated-requires-clause-node : goal.read_branch-is_repeated-requires-clause-node
-read_branch-is_repeated-requires-clause-node t c = made_inside _ c.args.parts.now c.read_type.new.parts c.in-Ok.branch (c.in-Ok.ensures c.requires.1.1.1.0.0 c.requires.1.1.1.0.1)
+pub read_branch-add_branch-requires-clause-node : goal.read_branch-add_branch-requires-clause-node
+read_branch-add_branch-requires-clause-node t c = made_inside _ c.args.parts.now c.read_type.new.parts c.in-Ok.branch (c.in-Ok.ensures c.requires.1.1.1.0.0 c.requires.1.1.1.0.1)
 
-pub read_branch-returns-then-is_repeated-clause-err : goal.read_branch-returns-then-is_repeated-clause-err
-read_branch-returns-then-is_repeated-clause-err t c = λ j h.
-    branch_repeated (reader c.args.canonical c.args.levels) c.args.namespace.now j c.args.parts.now c.read_type.new.parts c.args.branches.now.items c.in-Ok.branch (c.in-Ok.ensures j h) c.requires.1.1.1.1 (sym c.is_repeated.ensures ∙ c.if-is_repeated.true)
+pub read_branch-returns-in-Ok-false-clause-err : goal.read_branch-returns-in-Ok-false-clause-err
+read_branch-returns-in-Ok-false-clause-err t c = λ j h.
+    branch_repeated (reader c.args.canonical c.args.levels) c.args.namespace.now j c.args.parts.now c.read_type.new.parts c.args.branches.now.items c.in-Ok.branch c.args.names.now (c.in-Ok.ensures j h) c.requires.1.1.1.1.1
+    (not_false _ _ c.in-Ok-false.ensures.added c.in-Ok-false.field-0-test)
 
 pub read_branch-returns-in-Ok-push-clause-ok : goal.read_branch-returns-in-Ok-push-clause-ok
 read_branch-returns-in-Ok-push-clause-ok t c = λ j h.
-    branch_made (reader c.args.canonical c.args.levels) c.args.namespace.now j c.args.parts.now c.read_type.new.parts c.args.branches.now.items c.push.new.self.items c.in-Ok.branch (c.in-Ok.ensures j h) c.requires.1.1.1.1
-    (sym c.is_repeated.ensures ∙ c.if-is_repeated.false) c.in-Ok-push.ensures.items
+    branch_made (reader c.args.canonical c.args.levels) c.args.namespace.now j c.args.parts.now c.read_type.new.parts c.args.branches.now.items c.in-Ok.branch c.args.names.now (c.in-Ok.ensures j h) c.requires.1.1.1.1.1 c.push.new.self.items
+    (not_true _ _ c.in-Ok-true.ensures.added c.in-Ok-true.field-0-test) c.in-Ok-push.ensures.items
+
+pub read_branch-returns-in-Ok-push-clause-names : goal.read_branch-returns-in-Ok-push-clause-names
+read_branch-returns-in-Ok-push-clause-names t c =
+    let m = c.in-Ok.ensures c.requires.1.1.1.0.0 c.requires.1.1.1.0.1 in
+    branch_named (reader c.args.canonical c.args.levels) c.args.namespace.now c.requires.1.1.1.0.0 c.args.parts.now c.read_type.new.parts c.args.branches.now.items c.in-Ok.branch c.args.names.now m c.requires.1.1.1.1.1 c.push.new.self.items
+    c.add_branch.new.seen c.requires.1.1.1.1.0 c.in-Ok-true.ensures.seen c.in-Ok-push.ensures.items
 
 -- ---- by the word
 
@@ -89,51 +100,69 @@ read_by_word-returns t c = λ ms h.
 
 -- ---- fields
 
-pub read_field-field_name-requires : goal.read_field-field_name-requires
-read_field-field_name-requires t c =
-    let o = reading.object_there c.args.tree.now c.args.node c.requires.1.1.1.0 c.requires.1.1.1.1 (c.if-not-is_object.ensures c.requires.1.1.1.0 c.requires.1.1.1.1) in
+pub read_field-part_name-requires : goal.read_field-part_name-requires
+read_field-part_name-requires t c =
+    let o = reading.object_there c.args.tree.now c.args.node c.requires.1.1.1.0.0 c.requires.1.1.1.0.1 (c.if-not-is_object.ensures c.requires.1.1.1.0.0 c.requires.1.1.1.0.1) in
     (last_member (codes "name") o.0, c.member.ensures o.0 o.1)
 
 pub read_field-read_part-requires : goal.read_field-read_part-requires
 read_field-read_part-requires t c =
-    let o = reading.object_there c.args.tree.now c.args.node c.requires.1.1.1.0 c.requires.1.1.1.1 (c.if-not-is_object.ensures c.requires.1.1.1.0 c.requires.1.1.1.1) in
+    let o = reading.object_there c.args.tree.now c.args.node c.requires.1.1.1.0.0 c.requires.1.1.1.0.1 (c.if-not-is_object.ensures c.requires.1.1.1.0.0 c.requires.1.1.1.0.1) in
     (omega (arith, c.requires.1.0), (c.requires.1.1.0, (last_member (codes "type") o.0, c.member-2.ensures o.0 o.1)))
 
+pub read_field-returns-after-push-clause-names : goal.read_field-returns-after-push-clause-names
+read_field-returns-after-push-clause-names t c =
+    let vs = c.args.fields.now.items in
+    let v : Field = record { name = c.in-Ok-from_str.name; node = c.in-Ok-read_part.node } in
+    let P : Result Unit SchemaNo → Type 0 = λ r. OnOk r (c.part_name.new.seen ≡ names_of_fields c.push.new.self.items) in
+    let named : c.part_name.new.seen ≡ names_of_fields (vs ++ v ∷ []) =
+    c.in-Ok.ensures.seen ∙ ap (λ ns. ns ++ c.in-Ok.name.now ∷ []) c.requires.1.1.1.1 ∙ ap (λ n. names_of_fields vs ++ n ∷ []) (sym c.in-Ok-from_str.ensures) ∙ sym (names-push vs v) in
+    elim c.match-push.branch as (λ b. P c.match-push.result) [
+      | read_field-in-Ok-push w ↦ subst P (sym w.result-is) (named ∙ ap names_of_fields (sym w.in-Ok-push.ensures.items))
+      | read_field-in-Err-push w ↦ subst P (sym w.result-is) tt
+    ]
+
 pub read_fields-loop-item-init : goal.read_fields-loop-item-init
-read_fields-loop-item-init t c = λ js h.
-    let P : List Field → Type 0 = λ vs. FieldsSoFar c.args.tree.now (reader c.args.canonical c.args.levels) c.args.namespace.now js c.args.parts.now c.args.parts.now c.in-Some-items_at.items.now vs in
-    subst P (sym c.new-fields.ensures.items) (fields_first c.args.tree.now (reader c.args.canonical c.args.levels) c.args.namespace.now js c.args.parts.now c.in-Some-items_at.items.now h c.requires.1.1.0)
+read_fields-loop-item-init t c = record {
+  names = c.new-names.ensures ∙ ap names_of_fields (sym c.new-fields.ensures.items);
+  so_far = λ js h.
+      let P : List Field → Type 0 = λ vs. FieldsSoFar c.args.tree.now (reader c.args.canonical c.args.levels) c.args.namespace.now js c.args.parts.now c.args.parts.now c.in-Some-items_at.items.now vs in
+      subst P (sym c.new-fields.ensures.items) (fields_first c.args.tree.now (reader c.args.canonical c.args.levels) c.args.namespace.now js c.args.parts.now c.in-Some-items_at.items.now h c.requires.1.1.0);
+}
 
 pub read_fields-read_field-requires : goal.read_fields-read_field-requires
 read_fields-read_field-requires t c =
     let l = list_there c.args.tree.now c.requires.1.1.1.0 c.args.node c.in-Some.at c.in-Some.is c.requires.1.1.1.1 in
     let i = c.in-Some-items_at.ensures l.j l.stands in
-    let s = c.loop-item.invariant i.0 i.2 in
+    let s = c.loop-item.invariant.so_far i.0 i.2 in
     let n = next_item_at c.args.tree.now c.in-Some-items_at.items.now c.loop-item.item-index s.left c.loop-item-test.true s.stand in
-    (omega (arith, c.requires.1.0), (s.grows.built, (n.j, n.stands)))
+    (omega (arith, c.requires.1.0), (s.grows.built, ((n.j, n.stands), c.loop-item.invariant.names)))
 
 pub read_fields-returns-in-Err-clause-err : goal.read_fields-returns-in-Err-clause-err
 read_fields-returns-in-Err-clause-err t c = λ o h.
     let l = list_there c.args.tree.now o c.args.node c.in-Some.at c.in-Some.is h in
     let i = c.in-Some-items_at.ensures l.j l.stands in
-    let s = c.loop-item.invariant i.0 i.2 in
+    let s = c.loop-item.invariant.so_far i.0 i.2 in
     let n = next_item_at c.args.tree.now c.in-Some-items_at.items.now c.loop-item.item-index s.left c.loop-item-test.true s.stand in
     why_along _ _ c.in-Err.e (fields_of_list (reader c.args.canonical c.args.levels) (names_of c.args.parts.now) c.args.namespace.now o l.j i.0 l.is i.1)
     (fields_refused c.args.tree.now (reader c.args.canonical c.args.levels) c.args.namespace.now i.0 c.args.parts.now c.loop-item.parts c.in-Some-items_at.items.now c.loop-item.item-index c.loop-item.fields.items c.in-Err.e s n (c.in-Err.ensures.err n.j n.stands))
 
 pub read_fields-loop-item-preserved : goal.read_fields-loop-item-preserved
-read_fields-loop-item-preserved t c = λ js h.
-    let s = c.loop-item.invariant js h in
-    let n = next_item_at c.args.tree.now c.in-Some-items_at.items.now c.loop-item.item-index s.left c.loop-item-test.true s.stand in
-    fields_more c.args.tree.now (reader c.args.canonical c.args.levels) c.args.namespace.now js c.args.parts.now c.loop-item.parts c.in-Some-items_at.items.now c.loop-item.item-index c.loop-item.fields.items
-    c.read_field.new.parts c.read_field.new.fields.items s n (c.in_default-read_field.ensures.ok n.j n.stands)
+read_fields-loop-item-preserved t c = record {
+  names = c.in_default-read_field.ensures.names;
+  so_far = λ js h.
+      let s = c.loop-item.invariant.so_far js h in
+      let n = next_item_at c.args.tree.now c.in-Some-items_at.items.now c.loop-item.item-index s.left c.loop-item-test.true s.stand in
+      fields_more c.args.tree.now (reader c.args.canonical c.args.levels) c.args.namespace.now js c.args.parts.now c.loop-item.parts c.in-Some-items_at.items.now c.loop-item.item-index c.loop-item.fields.items
+      c.read_field.new.parts c.read_field.new.fields.items s n (c.in_default-read_field.ensures.ok n.j n.stands);
+}
 
 pub read_fields-returns-clause-ok : goal.read_fields-returns-clause-ok
 read_fields-returns-clause-ok t c = λ o h.
     let l = list_there c.args.tree.now o c.args.node c.in-Some.at c.in-Some.is h in
     let i = c.in-Some-items_at.ensures l.j l.stands in
     fields_along _ _ c.args.parts.now c.loop-item.parts c.loop-item.fields.items (fields_of_list (reader c.args.canonical c.args.levels) (names_of c.args.parts.now) c.args.namespace.now o l.j i.0 l.is i.1)
-    (fields_done c.args.tree.now (reader c.args.canonical c.args.levels) c.args.namespace.now i.0 c.args.parts.now c.loop-item.parts _ c.loop-item.fields.items (drop_of_length-le c.in-Some-items_at.items.now c.loop-item-test.false) (c.loop-item.invariant i.0 i.2))
+    (fields_done c.args.tree.now (reader c.args.canonical c.args.levels) c.args.namespace.now i.0 c.args.parts.now c.loop-item.parts _ c.loop-item.fields.items (drop_of_length-le c.in-Some-items_at.items.now c.loop-item-test.false) (c.loop-item.invariant.so_far i.0 i.2))
 
 -- ---- objects
 
@@ -216,32 +245,38 @@ read_type-returns-in_default t c = λ j h.
 -- ---- unions
 
 pub read_union-loop-item-init : goal.read_union-loop-item-init
-read_union-loop-item-init t c = λ js h.
-    let P : List ℕ → Type 0 = λ ks. BranchesSoFar c.args.tree.now (reader c.args.canonical c.args.levels) c.args.namespace.now js c.args.parts.now c.args.parts.now c.items-item-items.result.now ks in
-    subst P (sym c.new-branches.ensures.items) (branches_first c.args.tree.now (reader c.args.canonical c.args.levels) c.args.namespace.now js c.args.parts.now c.items-item-items.result.now h c.requires.1.1.0)
+read_union-loop-item-init t c = record {
+  names = c.new-names.ensures ∙ ap (names_of_branches (types_of c.args.parts.now.nodes.items)) (sym c.new-branches.ensures.items);
+  so_far = λ js h.
+      let P : List ℕ → Type 0 = λ ks. BranchesSoFar c.args.tree.now (reader c.args.canonical c.args.levels) c.args.namespace.now js c.args.parts.now c.args.parts.now c.items-item-items.result.now ks in
+      subst P (sym c.new-branches.ensures.items) (branches_first c.args.tree.now (reader c.args.canonical c.args.levels) c.args.namespace.now js c.args.parts.now c.items-item-items.result.now h c.requires.1.1.0);
+}
 
 pub read_union-read_branch-requires : goal.read_union-read_branch-requires
 read_union-read_branch-requires t c =
-    let s = c.loop-item.invariant c.requires.1.1.1.0 (c.items-item-items.ensures.value c.requires.1.1.1.0 c.requires.1.1.1.1) in
+    let s = c.loop-item.invariant.so_far c.requires.1.1.1.0 (c.items-item-items.ensures.value c.requires.1.1.1.0 c.requires.1.1.1.1) in
     let n = next_item_at c.args.tree.now c.items-item-items.result.now c.loop-item.item-index s.left c.loop-item-test.true s.stand in
-    (omega (arith, c.requires.1.0), (s.grows.built, ((n.j, n.stands), s.inside)))
+    (omega (arith, c.requires.1.0), (s.grows.built, ((n.j, n.stands), (s.inside, c.loop-item.invariant.names))))
 
 pub read_union-returns-in-Err : goal.read_union-returns-in-Err
 read_union-returns-in-Err t c = λ js h.
-    let s = c.loop-item.invariant js (c.items-item-items.ensures.value js h) in
+    let s = c.loop-item.invariant.so_far js (c.items-item-items.ensures.value js h) in
     let n = next_item_at c.args.tree.now c.items-item-items.result.now c.loop-item.item-index s.left c.loop-item-test.true s.stand in
     union_why (reader c.args.canonical c.args.levels) (names_of c.args.parts.now) c.args.namespace.now js c.in-Err.e
     (branches_refused c.args.tree.now (reader c.args.canonical c.args.levels) c.args.namespace.now js c.args.parts.now c.loop-item.parts c.items-item-items.result.now c.loop-item.item-index c.loop-item.branches.items c.in-Err.e s n (c.in-Err.ensures.err n.j n.stands))
 
 pub read_union-loop-item-preserved : goal.read_union-loop-item-preserved
-read_union-loop-item-preserved t c = λ js h.
-    let s = c.loop-item.invariant js h in
-    let n = next_item_at c.args.tree.now c.items-item-items.result.now c.loop-item.item-index s.left c.loop-item-test.true s.stand in
-    branches_more c.args.tree.now (reader c.args.canonical c.args.levels) c.args.namespace.now js c.args.parts.now c.loop-item.parts c.items-item-items.result.now c.loop-item.item-index c.loop-item.branches.items
-    c.read_branch.new.parts c.read_branch.new.branches.items s n (c.in_default.ensures.ok n.j n.stands)
+read_union-loop-item-preserved t c = record {
+  names = c.in_default.ensures.names;
+  so_far = λ js h.
+      let s = c.loop-item.invariant.so_far js h in
+      let n = next_item_at c.args.tree.now c.items-item-items.result.now c.loop-item.item-index s.left c.loop-item-test.true s.stand in
+      branches_more c.args.tree.now (reader c.args.canonical c.args.levels) c.args.namespace.now js c.args.parts.now c.loop-item.parts c.items-item-items.result.now c.loop-item.item-index c.loop-item.branches.items
+      c.read_branch.new.parts c.read_branch.new.branches.items s n (c.in_default.ensures.ok n.j n.stands);
+}
 
 pub read_union-returns : goal.read_union-returns
 read_union-returns t c = λ js h.
     let left = drop_of_length-le c.items-item-items.result.now c.loop-item-test.false in
     union_tells c.args.tree.now (reader c.args.canonical c.args.levels) c.args.namespace.now js c.args.parts.now c.loop-item.parts c.add.new.self _ c.loop-item.branches.items (Union c.loop-item.branches) c.add.result left
-    (c.loop-item.invariant js (c.items-item-items.ensures.value js h)) (λ n a. a) (λ m e x. cc) (λ ts. refl) c.add.ensures.ok c.add.ensures.want c.add.ensures.definitions
+    (c.loop-item.invariant.so_far js (c.items-item-items.ensures.value js h)) (λ n a. a) (λ m e x. cc) (λ ts. refl) c.add.ensures.ok c.add.ensures.want c.add.ensures.definitions

@@ -1,8 +1,9 @@
-use Rattle.std.proofs.Common.{◌+◌, ◌*◌, drop}
+use Rattle.std.proofs.Common.{◌≡◌, ◌+◌, ◌*◌, drop}
 use Rattle.json_span.specs.Json.{Items}
 use Rattle.json_span.specs.Nodes.{StandForItems}
 use Rattle.avro_schema.specs.Reading.{reader}
-use Rattle.avro_schema.specs.Building.{FieldsSoFar, BranchesSoFar}
+use Rattle.avro_schema.specs.Building.{FieldsSoFar, BranchesSoFar, names_of_fields, names_of_branches}
+use Rattle.avro_schema.specs.Forms.{types_of}
 use Rattle.avro_schema.proofs.reader.+reader.Given as goal
 
 abbrev pub decreases-read_type : goal.decreases-read_type
@@ -33,9 +34,13 @@ abbrev pub decreases-read_object : goal.decreases-read_object
 decreases-read_object l = 16 * l.levels + 8
 
 abbrev pub invariant-read_fields-loop-item : goal.invariant-read_fields-loop-item
-invariant-read_fields-loop-item l = (js : Items) → StandForItems l.fn.tree l.items js
-    → FieldsSoFar l.fn.tree (reader l.fn.canonical l.fn.levels) l.fn.namespace js l.fn.parts l.parts (drop l.item-index l.items) l.fields.items
+invariant-read_fields-loop-item l = record {
+  names : l.names ≡ names_of_fields l.fields.items;
+  so_far : (js : Items) → StandForItems l.fn.tree l.items js → FieldsSoFar l.fn.tree (reader l.fn.canonical l.fn.levels) l.fn.namespace js l.fn.parts l.parts (drop l.item-index l.items) l.fields.items;
+}
 
 abbrev pub invariant-read_union-loop-item : goal.invariant-read_union-loop-item
-invariant-read_union-loop-item l = (js : Items) → StandForItems l.fn.tree l.item-items js
-    → BranchesSoFar l.fn.tree (reader l.fn.canonical l.fn.levels) l.fn.namespace js l.fn.parts l.parts (drop l.item-index l.item-items) l.branches.items
+invariant-read_union-loop-item l = record {
+  names : l.names ≡ names_of_branches (types_of l.parts.nodes.items) l.branches.items;
+  so_far : (js : Items) → StandForItems l.fn.tree l.item-items js → BranchesSoFar l.fn.tree (reader l.fn.canonical l.fn.levels) l.fn.namespace js l.fn.parts l.parts (drop l.item-index l.item-items) l.branches.items;
+}

@@ -16,7 +16,7 @@ use Rattle.instance.proofs.assign.places_for.Goals as goal
 
 pub returns-clause-code : goal.returns-clause-code
 returns-clause-code g c = λ tells is.
-    fits_failed _ c.fix.result (lacking (g.L.Link.log c.args.link.now) (map at_of c.args.parts.now) (map at_of c.args.parts.now)) (c.in_ok-check_topics.ensures.code tells is) c.fix.ensures.failed
+    fits_failed _ c.fix.result (lacking (g.L.Link.stand c.args.link.now).log (map at_of c.args.parts.now) (map at_of c.args.parts.now)) (c.in_ok-check_topics.ensures.code tells is) c.fix.ensures.failed
 
 pub returns-clause-set : goal.returns-clause-set
 returns-clause-set g c =
@@ -26,9 +26,9 @@ returns-clause-set g c =
 
 pub returns-clause-fixes : goal.returns-clause-fixes
 returns-clause-fixes g c = λ tells is.
-    let a : Log = g.L.Link.log c.args.link.now in
-    let m : Log = g.L.Link.log c.check_topics.new.link in
-    let b : Log = g.L.Link.log c.fix.new.link in
+    let a : Log = (g.L.Link.stand c.args.link.now).log in
+    let m : Log = (g.L.Link.stand c.check_topics.new.link).log in
+    let b : Log = (g.L.Link.stand c.fix.new.link).log in
     let goes = c.check_topics.ensures.goes in
     let keeps = goes.keeps tells in
     let group : List ℕ = c.args.group.now in
@@ -41,8 +41,8 @@ returns-clause-fixes g c = λ tells is.
 
 pub returns-clause-good : goal.returns-clause-good
 returns-clause-good g c = λ plain tells is.
-    let a : Log = g.L.Link.log c.args.link.now in
-    let m : Log = g.L.Link.log c.check_topics.new.link in
+    let a : Log = (g.L.Link.stand c.args.link.now).log in
+    let m : Log = (g.L.Link.stand c.check_topics.new.link).log in
     let goes = c.check_topics.ensures.goes in
     let there : All (HasPart a) (map at_of c.in_ok-sorted.sorted.items) =
     sorted_there a (map at_of c.args.parts.now) (map at_of c.in_ok-sorted.sorted.items) (c.in_ok-check_topics.ensures.code tells is) c.in_ok-sorted.ensures in

@@ -32,8 +32,7 @@ pub returns-in-Err-clause-good : goal.returns-in-Err-clause-good
 returns-in-Err-clause-good g c = λ plain t have.
     let places : List Place = map place_of c.args.places.now in
     let are : map asked c.as_slice.result.now ≡ turned c.args.first places = ap (map asked) (c.as_slice.ensures.value ∙ c.rotate_left.ensures.items) ∙ asked_turned c.in_ok-asks.asks.items places c.args.first c.in_ok-asks.ensures in
-    let plainly = c.in-Err.ensures.plainly plain in
-    plainly.1 t (have_asked (g.L.Link.log c.args.link.now) c.as_slice.result.now (turned c.args.first places) are (All-turned (λ (p : Place). HasPart (g.L.Link.log c.args.link.now) p.at) c.args.first places have))
+    c.in-Err.ensures.plainly plain t (have_asked (g.L.Link.stand c.args.link.now).log c.as_slice.result.now (turned c.args.first places) are (All-turned (λ (p : Place). HasPart (g.L.Link.stand c.args.link.now).log p.at) c.args.first places have))
 
 -- as many came as places were asked from
 as_many : (asks asks2 : List FetchFrom) (fetched : List Fetched) (places : List Place) (k : ℕ) → map asked asks ≡ places → asks2 ≡ turned k asks → AllZip IsFetched asks2 fetched → length fetched ≡ length places
@@ -61,7 +60,7 @@ returns-clause-offsets g c =
 
 pub returns-clause-got : goal.returns-clause-got
 returns-clause-got g c = λ t.
-    let log : Log = g.L.Link.log c.fetch.new.self in
+    let log : Log = (g.L.Link.stand c.fetch.new.self).log in
     let is = c.as_slice.ensures.value ∙ c.rotate_left.ensures.items in
     let places : List Place = map place_of c.args.places.now in
     let fetched : List Fetched = c.in-Ok.fetched in

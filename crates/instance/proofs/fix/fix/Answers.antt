@@ -30,13 +30,13 @@ fix_all-requires g c = record {
 
 pub returns-clause-goes : goal.returns-clause-goes
 returns-clause-goes g c =
-    goes_on _ _ _ _ _ _ (g.L.Link.log c.args.link.now) (g.L.Link.log c.committed.new.link) (g.L.Link.log c.fix_all.new.link) c.committed.ensures.goes c.fix_all.ensures.goes
+    goes_on _ _ _ _ _ _ (g.L.Link.stand c.args.link.now).log (g.L.Link.stand c.committed.new.link).log (g.L.Link.stand c.fix_all.new.link).log c.committed.ensures.goes c.fix_all.ensures.goes
 
 pub returns-clause-fixes : goal.returns-clause-fixes
 returns-clause-fixes g c = λ tells is.
-    let a : Log = g.L.Link.log c.args.link.now in
-    let m : Log = g.L.Link.log c.committed.new.link in
-    let b : Log = g.L.Link.log c.fix_all.new.link in
+    let a : Log = (g.L.Link.stand c.args.link.now).log in
+    let m : Log = (g.L.Link.stand c.committed.new.link).log in
+    let b : Log = (g.L.Link.stand c.fix_all.new.link).log in
     let goes = c.committed.ensures.goes in
     let keeps = goes.keeps tells in
     let kept : List Place = map place_of c.args.kept.now in
@@ -55,8 +55,8 @@ returns-clause-fixes g c = λ tells is.
 
 pub returns-clause-good : goal.returns-clause-good
 returns-clause-good g c = λ plain tells all.
-    let a : Log = g.L.Link.log c.args.link.now in
-    let m : Log = g.L.Link.log c.committed.new.link in
+    let a : Log = (g.L.Link.stand c.args.link.now).log in
+    let m : Log = (g.L.Link.stand c.committed.new.link).log in
     let goes = c.committed.ensures.goes in
     c.fix_all.ensures.good (goes.plainly plain) (goes.telling tells)
     (All-weaker (λ (at : TopicPart). HasPart a at) (λ (at : TopicPart). HasPart m at) (λ at has. has_part_later a m at (goes.keeps tells).0 has) (map at_of c.args.parts.now) all)

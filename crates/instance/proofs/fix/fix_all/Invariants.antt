@@ -10,10 +10,10 @@ use Rattle.instance.proofs.fix.fix_all.Given as goal
 
 abbrev pub invariant-loop-i : goal.invariant-loop-i
 invariant-loop-i g l = record {
-  goes : GoesOn (g.L.Link.tells l.fn.link) (g.L.Link.tells l.link) (g.L.Link.plain l.fn.link) (g.L.Link.plain l.link) (g.L.Link.log l.fn.link) (g.L.Link.log l.link);
-  kept : CountsKept (g.L.Link.counts l.fn.link) (g.L.Link.counts l.link);
+  goes : GoesOn (g.L.Link.stand l.fn.link).tells (g.L.Link.stand l.link).tells (g.L.Link.stand l.fn.link).plain (g.L.Link.stand l.link).plain (g.L.Link.stand l.fn.link).log (g.L.Link.stand l.link).log;
+  kept : CountsKept (g.L.Link.stand l.fn.link).counts (g.L.Link.stand l.link).counts;
   whose : map at_in l.places.items ≡ map at_of (take l.i l.parts);
   small : IsLow (map place_of l.places.items);
-  fixed : g.L.Link.tells l.fn.link → IsLog (g.L.Link.log l.fn.link)
-      → AreFixed (edge_view l.reset) (g.L.Link.log l.fn.link) (map at_of (take l.i l.parts)) (take l.i l.known) (map place_of l.places.items) (g.L.Link.log l.link);
+  fixed : (g.L.Link.stand l.fn.link).tells → IsLog (g.L.Link.stand l.fn.link).log
+      → AreFixed (edge_view l.reset) (g.L.Link.stand l.fn.link).log (map at_of (take l.i l.parts)) (take l.i l.known) (map place_of l.places.items) (g.L.Link.stand l.link).log;
 }

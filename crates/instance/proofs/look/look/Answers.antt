@@ -16,12 +16,12 @@ conclude-requires-clause-offsets g c = subst (All HasOffsets) (sym c.as_slice.en
 
 pub returns-in-Ok-clause-acts : goal.returns-in-Ok-clause-acts
 returns-in-Ok-clause-acts g c = λ advertise key.
-    let b : Log = g.L.Link.log c.gather_for.new.link in
+    let b : Log = (g.L.Link.stand c.gather_for.new.link).log in
     let lots : List Lot = lots_of c.gather_for.new.consumer.assignment.items c.as_slice.result.now in
     let kept = c.gather_for.ensures.kept in
     let set = c.gather_for.ensures.set in
-    acts_over advertise key c.args.now c.args.round c.args.timeout c.args.max_bytes (g.L.Link.tells c.args.link.now) (g.L.Link.tells c.gather_for.new.link) (g.L.Link.plain c.args.link.now) (g.L.Link.plain c.gather_for.new.link)
-    (g.L.Link.counts c.args.link.now) (g.L.Link.counts c.gather_for.new.link) (consumer_of c.args.consumer.now) (g.L.Link.log c.args.link.now) c.gather_for.new.events c.conclude.result b
+    acts_over advertise key c.args.now c.args.round c.args.timeout c.args.max_bytes (g.L.Link.stand c.args.link.now).tells (g.L.Link.stand c.gather_for.new.link).tells (g.L.Link.stand c.args.link.now).plain (g.L.Link.stand c.gather_for.new.link).plain
+    (g.L.Link.stand c.args.link.now).counts (g.L.Link.stand c.gather_for.new.link).counts (consumer_of c.args.consumer.now) (g.L.Link.stand c.args.link.now).log c.gather_for.new.events c.conclude.result b
     (consumer_of c.gather_for.new.consumer) (consumer_of c.conclude.new.consumer) lots c.at_most-wait.result c.at_most-bound.result
     (is_binary c.args.consumer.now) c.gather_for.ensures.passes set
     (mid_is c.args.now c.args.consumer.now c.gather_for.new.consumer set.news kept.settings kept.rotation kept.unsaved kept.last_use set.after)
@@ -33,8 +33,8 @@ pub returns-in-Err-clause-acts : goal.returns-in-Err-clause-acts
 returns-in-Err-clause-acts g c = λ advertise key.
     let kept = c.gather_for.ensures.kept in
     let set = c.gather_for.ensures.set in
-    acts_failed advertise key c.args.now c.args.round c.args.timeout c.args.max_bytes (g.L.Link.tells c.args.link.now) (g.L.Link.tells c.gather_for.new.link) (g.L.Link.plain c.args.link.now) (g.L.Link.plain c.gather_for.new.link)
-    (g.L.Link.counts c.args.link.now) (g.L.Link.counts c.gather_for.new.link) (consumer_of c.args.consumer.now) (g.L.Link.log c.args.link.now) c.gather_for.new.events c.link_failure.result (g.L.Link.log c.gather_for.new.link)
+    acts_failed advertise key c.args.now c.args.round c.args.timeout c.args.max_bytes (g.L.Link.stand c.args.link.now).tells (g.L.Link.stand c.gather_for.new.link).tells (g.L.Link.stand c.args.link.now).plain (g.L.Link.stand c.gather_for.new.link).plain
+    (g.L.Link.stand c.args.link.now).counts (g.L.Link.stand c.gather_for.new.link).counts (consumer_of c.args.consumer.now) (g.L.Link.stand c.args.link.now).log c.gather_for.new.events c.link_failure.result (g.L.Link.stand c.gather_for.new.link).log
     (consumer_of c.gather_for.new.consumer) c.in-Err.e (is_binary c.args.consumer.now) c.gather_for.ensures.passes set
     (mid_is c.args.now c.args.consumer.now c.gather_for.new.consumer set.news kept.settings kept.rotation kept.unsaved kept.last_use set.after)
     (omega (arith, c.in-Err.ensures.sent, length-map c.args.consumer.now.assignment.items place_of)) c.in-Err.ensures.cause (λ p t there. c.in-Err.ensures.good p t there) c.link_failure.ensures.says

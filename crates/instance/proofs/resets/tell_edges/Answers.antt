@@ -17,11 +17,11 @@ returns-in-Err-clause-passes g c = passes_on c.loop-i.invariant.passes c.tell_on
 pub returns-in-Err-clause-good : goal.returns-in-Err-clause-good
 returns-in-Err-clause-good g c = λ plain t have.
     let h = c.loop-i.invariant.passes in
-    let has = has_part_later (g.L.Link.log c.args.link.now) (g.L.Link.log c.loop-i.link) (place_of c.index-places-i.result).at (h.keeps t) (has_at (g.L.Link.log c.args.link.now) c.args.places.now c.loop-i.i c.index-places-i.result have c.loop-i-test.true c.index-places-i.is) in
+    let has = has_part_later (g.L.Link.stand c.args.link.now).log (g.L.Link.stand c.loop-i.link).log (place_of c.index-places-i.result).at (h.keeps t) (has_at (g.L.Link.stand c.args.link.now).log c.args.places.now c.loop-i.i c.index-places-i.result have c.loop-i-test.true c.index-places-i.is) in
     c.in-Err.ensures.good (h.plainly plain) (h.telling t) has
 
 pub returns-in-Err-clause-cause : goal.returns-in-Err-clause-cause
-returns-in-Err-clause-cause g c = comes_on (g.L.Link.counts c.args.link.now) (g.L.Link.counts c.loop-i.link) (g.L.Link.counts c.tell_one.new.link) c.in-Err.e c.loop-i.invariant.passes.counts c.in-Err.ensures.cause
+returns-in-Err-clause-cause g c = comes_on (g.L.Link.stand c.args.link.now).counts (g.L.Link.stand c.loop-i.link).counts (g.L.Link.stand c.tell_one.new.link).counts c.in-Err.e c.loop-i.invariant.passes.counts c.in-Err.ensures.cause
 
 pub returns-in_err-push-clause-passes : goal.returns-in_err-push-clause-passes
 returns-in_err-push-clause-passes g c = passes_on c.loop-i.invariant.passes c.tell_one.ensures.passes
@@ -29,9 +29,9 @@ returns-in_err-push-clause-passes g c = passes_on c.loop-i.invariant.passes c.te
 pub loop-i-preserved : goal.loop-i-preserved
 loop-i-preserved g c =
     let h = c.loop-i.invariant.passes in
-    let a : Log = g.L.Link.log c.args.link.now in
-    let m : Log = g.L.Link.log c.loop-i.link in
-    let b : Log = g.L.Link.log c.tell_one.new.link in
+    let a : Log = (g.L.Link.stand c.args.link.now).log in
+    let m : Log = (g.L.Link.stand c.loop-i.link).log in
+    let b : Log = (g.L.Link.stand c.tell_one.new.link).log in
     let k = c.tell_one.ensures.passes in
     let more : c.push.new.self ≡ c.loop-i.told ++ c.in-Ok.one ∷ [] = c.in_ok-push.ensures.ok in
     record {

@@ -9,9 +9,9 @@ use Rattle.instance.proofs.resets.tell_edges.Given as goal
 
 abbrev pub invariant-loop-i : goal.invariant-loop-i
 invariant-loop-i g l = record {
-  passes : Passes (g.L.Link.tells l.fn.link) (g.L.Link.tells l.link) (g.L.Link.plain l.fn.link) (g.L.Link.plain l.link) (g.L.Link.log l.fn.link) (g.L.Link.log l.link) (g.L.Link.counts l.fn.link) (g.L.Link.counts l.link);
+  passes : Passes (g.L.Link.stand l.fn.link).tells (g.L.Link.stand l.link).tells (g.L.Link.stand l.fn.link).plain (g.L.Link.stand l.link).plain (g.L.Link.stand l.fn.link).log (g.L.Link.stand l.link).log (g.L.Link.stand l.fn.link).counts (g.L.Link.stand l.link).counts;
   long : length l.told ≡ l.i;
   are : AreTold (take l.i l.fetched) l.told;
   low : All IsLowIf l.told;
-  told : g.L.Link.tells l.fn.link → IsLog (g.L.Link.log l.fn.link) → EdgesTold (edge_view l.edge) (g.L.Link.log l.fn.link) (map place_of (take l.i l.places)) l.told (g.L.Link.log l.link);
+  told : (g.L.Link.stand l.fn.link).tells → IsLog (g.L.Link.stand l.fn.link).log → EdgesTold (edge_view l.edge) (g.L.Link.stand l.fn.link).log (map place_of (take l.i l.places)) l.told (g.L.Link.stand l.link).log;
 }

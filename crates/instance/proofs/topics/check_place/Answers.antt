@@ -10,7 +10,7 @@ use Rattle.instance.proofs.topics.check_place.Goals as goal
 
 pub returns-then-is_named-clause-code : goal.returns-then-is_named-clause-code
 returns-then-is_named-clause-code g c = λ tells is pass.
-    let a = g.L.Link.log c.args.link.now in
+    let a = (g.L.Link.stand c.args.link.now).log in
     let part : Part = c.index-parts-place.result in
     let topic : c.as_str-topic.result.now ≡ part.topic = c.as_str-topic.ensures ∙ ap (λ (p : Part). p.topic) (sym c.index-parts-place.is) in
     let named : list_any (λ (p : Part). bytes_eq p.topic part.topic) (take c.args.place c.args.parts.now) ≡ true =
@@ -19,7 +19,7 @@ returns-then-is_named-clause-code g c = λ tells is pass.
 
 pub returns-clause-code : goal.returns-clause-code
 returns-clause-code g c = λ tells is pass.
-    let a = g.L.Link.log c.args.link.now in
+    let a = (g.L.Link.stand c.args.link.now).log in
     let part : Part = c.index-parts-place.result in
     let topic : c.as_str-topic.result.now ≡ part.topic = c.as_str-topic.ensures ∙ ap (λ (p : Part). p.topic) (sym c.index-parts-place.is) in
     fits_next a c.args.parts.now c.args.place part c.check_topic.result c.requires.within c.index-parts-place.is pass

@@ -9,8 +9,8 @@ use Rattle.instance.proofs.topics.check_topics.Goals as goal
 
 pub returns-in_err-check_place-clause-code : goal.returns-in_err-check_place-clause-code
 returns-in_err-check_place-clause-code g c = λ tells is.
-    let a = g.L.Link.log c.args.link.now in
-    let m = g.L.Link.log c.loop-place.link in
+    let a = (g.L.Link.stand c.args.link.now).log in
+    let m = (g.L.Link.stand c.loop-place.link).log in
     let goes = c.loop-place.invariant.goes in
     let keeps = goes.keeps tells in
     let p = err_from_is_err_and c.from_residual.result c.from_residual.ensures.1 in
@@ -19,13 +19,13 @@ returns-in_err-check_place-clause-code g c = λ tells is.
 
 pub loop-place-preserved : goal.loop-place-preserved
 loop-place-preserved g c =
-    let a = g.L.Link.log c.args.link.now in
-    let m = g.L.Link.log c.loop-place.link in
-    let b = g.L.Link.log c.check_place.new.link in
+    let a = (g.L.Link.stand c.args.link.now).log in
+    let m = (g.L.Link.stand c.loop-place.link).log in
+    let b = (g.L.Link.stand c.check_place.new.link).log in
     let goes = c.loop-place.invariant.goes in
     record {
       goes = goes_on _ _ _ _ _ _ a m b goes c.check_place.ensures.goes;
-      kept = counts_kept (g.L.Link.counts c.args.link.now) (g.L.Link.counts c.loop-place.link) (g.L.Link.counts c.check_place.new.link) c.loop-place.invariant.kept c.check_place.ensures.caused.kept;
+      kept = counts_kept (g.L.Link.stand c.args.link.now).counts (g.L.Link.stand c.loop-place.link).counts (g.L.Link.stand c.check_place.new.link).counts c.loop-place.invariant.kept c.check_place.ensures.caused.kept;
       pass = λ tells is.
           let keeps = goes.keeps tells in
           let fits = c.in_ok-check_place.ensures.code (goes.telling tells) (goes.is_log tells is) (pass_later a m (map at_of c.args.parts.now) _ keeps.0 (c.loop-place.invariant.pass tells is)) in
@@ -34,4 +34,4 @@ loop-place-preserved g c =
 
 pub returns-clause-code : goal.returns-clause-code
 returns-clause-code g c = λ tells is.
-    none_lacking (g.L.Link.log c.args.link.now) (map at_of c.args.parts.now) c.loop-place.place (omega (arith, length-map c.args.parts.now at_of)) (c.loop-place.invariant.pass tells is)
+    none_lacking (g.L.Link.stand c.args.link.now).log (map at_of c.args.parts.now) c.loop-place.place (omega (arith, length-map c.args.parts.now at_of)) (c.loop-place.invariant.pass tells is)

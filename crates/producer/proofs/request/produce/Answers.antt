@@ -6,75 +6,68 @@ use Rattle.producer.specs.Counted.{are_within, IsCount}
 use Rattle.producer.specs.Grouped.{placed_of}
 use Rattle.producer.specs.Payloads.{number_in, payload_of}
 use Rattle.producer.specs.declared.told.Told.{Told}
-use Rattle.producer.proofs.Ends.{ends_answered, ends_unknown_topic, ends_unknown_partition, ends_failed, kept_through, all_stored}
+use Rattle.producer.proofs.Ends.{ends_answered, ends_unknown_topic, ends_unknown_partition, ends_failed, all_stored}
 use Rattle.producer.proofs.request.produce.Goals as goal
 
 pub returns-in-Ok-None-clause-ends : goal.returns-in-Ok-None-clause-ends
 returns-in-Ok-None-clause-ends g c = λ tells is.
-    let a : Log = g.L.Link.log c.args.link.now in
-    let m : Log = g.L.Link.log c.count_parts.new.link in
-    let keeps = c.count_parts.ensures.keeps tells in
-    ends_unknown_topic a m c.args.topic.now c.args.batch keeps.0 keeps.1 (rw c.in-Ok-None.field-0-is at (c.in-Ok-None.ensures.counted tells is))
+    let a : Log = (g.L.Link.stand c.args.link.now).log in
+    let m : Log = (g.L.Link.stand c.count_parts.new.link).log in
+    let read = c.count_parts.ensures.goes in
+    let keeps = read.goes.keeps tells in
+    ends_unknown_topic a m c.args.topic.now c.args.batch keeps (read.none tells) (rw c.in-Ok-None.field-0-is at (c.in-Ok-None.ensures.counted tells is))
 
 pub returns-then-not-are_within-clause-ends : goal.returns-then-not-are_within-clause-ends
 returns-then-not-are_within-clause-ends g c = λ tells is.
-    let a : Log = g.L.Link.log c.args.link.now in
-    let m : Log = g.L.Link.log c.count_parts.new.link in
-    let keeps = c.count_parts.ensures.keeps tells in
+    let a : Log = (g.L.Link.stand c.args.link.now).log in
+    let m : Log = (g.L.Link.stand c.count_parts.new.link).log in
+    let read = c.count_parts.ensures.goes in
+    let keeps = read.goes.keeps tells in
     let count : IsCount m c.args.topic.now (Some c.in-Ok-Some.count) = rw c.in-Ok-Some.field-0-is at (c.in-Ok-Some.ensures.counted tells is) in
     let out : are_within c.in-Ok-Some.count c.args.batch.rows ≡ false = ap (λ (rs : List Row). are_within c.in-Ok-Some.count rs) (sym c.as_slice.ensures) ∙ (sym c.are_within.ensures ∙ c.if-not-are_within.true) in
-    ends_unknown_partition a m c.args.topic.now c.args.batch c.in-Ok-Some.count keeps.0 keeps.1 count out
+    ends_unknown_partition a m c.args.topic.now c.args.batch c.in-Ok-Some.count keeps (read.none tells) count out
 
 pub returns-in-Ok-clause-ends : goal.returns-in-Ok-clause-ends
 returns-in-Ok-clause-ends g c = λ tells is.
-    let a : Log = g.L.Link.log c.args.link.now in
-    let m : Log = g.L.Link.log c.count_parts.new.link in
-    let b : Log = g.L.Link.log c.store.new.link in
-    let keeps = c.count_parts.ensures.keeps tells in
-    let told_still = c.count_parts.ensures.telling tells in
+    let a : Log = (g.L.Link.stand c.args.link.now).log in
+    let m : Log = (g.L.Link.stand c.count_parts.new.link).log in
+    let b : Log = (g.L.Link.stand c.store.new.link).log in
+    let read = c.count_parts.ensures.goes in
+    let keeps = read.goes.keeps tells in
+    let told_still = read.goes.telling tells in
     let count : IsCount m c.args.topic.now (Some c.in-Ok-Some.count) = rw c.in-Ok-Some.field-0-is at (c.in-Ok-Some.ensures.counted tells is) in
     let rows : c.as_slice.result.now ≡ c.args.batch.rows = c.as_slice.ensures in
     let inside : are_within c.in-Ok-Some.count c.args.batch.rows ≡ true = ap (λ (rs : List Row). are_within c.in-Ok-Some.count rs) (sym rows) ∙ (sym c.are_within.ensures ∙ c.if-not-are_within.false) in
     let answered : Answered m b c.args.topic.now (map payload_of c.args.batch.rows) (map placed_of c.in-Ok.told) =
     c.in-Ok.ensures.answered told_still in
-    ends_answered a m b c.args.topic.now c.args.batch c.in-Ok-Some.count c.in-Ok.told keeps.0 keeps.1 count inside c.requires.named answered
-
-pub returns-in-Ok-clause-keeps : goal.returns-in-Ok-clause-keeps
-returns-in-Ok-clause-keeps g c = λ tells.
-    let first = c.count_parts.ensures.keeps tells in
-    let second = c.store.ensures.keeps (c.count_parts.ensures.telling tells) in
-    kept_through (g.L.Link.log c.args.link.now) (g.L.Link.log c.count_parts.new.link) (g.L.Link.log c.store.new.link) first.0 first.2 second.0 second.1
+    ends_answered a m b c.args.topic.now c.args.batch c.in-Ok-Some.count c.in-Ok.told keeps (read.none tells) count inside c.requires.named answered
 
 pub returns-in-Ok-clause-good : goal.returns-in-Ok-clause-good
 returns-in-Ok-clause-good g c = λ plain tells is.
-    let a : Log = g.L.Link.log c.args.link.now in
-    let m : Log = g.L.Link.log c.count_parts.new.link in
-    let b : Log = g.L.Link.log c.store.new.link in
-    let keeps = c.count_parts.ensures.keeps tells in
-    let told_still = c.count_parts.ensures.telling tells in
+    let a : Log = (g.L.Link.stand c.args.link.now).log in
+    let m : Log = (g.L.Link.stand c.count_parts.new.link).log in
+    let b : Log = (g.L.Link.stand c.store.new.link).log in
+    let read = c.count_parts.ensures.goes in
+    let keeps = read.goes.keeps tells in
+    let told_still = read.goes.telling tells in
     let count : IsCount m c.args.topic.now (Some c.in-Ok-Some.count) = rw c.in-Ok-Some.field-0-is at (c.in-Ok-Some.ensures.counted tells is) in
     let rows : c.as_slice.result.now ≡ c.args.batch.rows = c.as_slice.ensures in
     let inside : are_within c.in-Ok-Some.count c.args.batch.rows ≡ true = ap (λ (rs : List Row). are_within c.in-Ok-Some.count rs) (sym rows) ∙ (sym c.are_within.ensures ∙ c.if-not-are_within.false) in
     let whose : map (λ (t : Told). t.partition) c.in-Ok.told ≡ map number_in c.args.batch.rows = c.in-Ok.ensures.whose in
-    all_stored m c.args.topic.now c.in-Ok-Some.count c.in-Ok.told c.args.batch.rows count.1 (c.in-Ok.ensures.lacked (c.count_parts.ensures.plainly plain).0 told_still) whose inside
+    all_stored m c.args.topic.now c.in-Ok-Some.count c.in-Ok.told c.args.batch.rows count.1 (c.in-Ok.ensures.lacked (read.goes.plainly plain) told_still) whose inside
 
 pub returns-in-Err-store-clause-ends : goal.returns-in-Err-store-clause-ends
 returns-in-Err-store-clause-ends g c = λ tells is.
-    let a : Log = g.L.Link.log c.args.link.now in
-    let m : Log = g.L.Link.log c.count_parts.new.link in
-    let b : Log = g.L.Link.log c.store.new.link in
-    let keeps = c.count_parts.ensures.keeps tells in
-    let told_still = c.count_parts.ensures.telling tells in
+    let a : Log = (g.L.Link.stand c.args.link.now).log in
+    let m : Log = (g.L.Link.stand c.count_parts.new.link).log in
+    let b : Log = (g.L.Link.stand c.store.new.link).log in
+    let read = c.count_parts.ensures.goes in
+    let keeps = read.goes.keeps tells in
+    let told_still = read.goes.telling tells in
     let count : IsCount m c.args.topic.now (Some c.in-Ok-Some.count) = rw c.in-Ok-Some.field-0-is at (c.in-Ok-Some.ensures.counted tells is) in
     let rows : c.as_slice.result.now ≡ c.args.batch.rows = c.as_slice.ensures in
     let inside : are_within c.in-Ok-Some.count c.args.batch.rows ≡ true = ap (λ (rs : List Row). are_within c.in-Ok-Some.count rs) (sym rows) ∙ (sym c.are_within.ensures ∙ c.if-not-are_within.false) in
     let unknown : Unknown m b c.args.topic.now (map payload_of c.args.batch.rows) =
     c.in-Err-store.ensures.unknown told_still in
-    ends_failed a m b c.args.topic.now c.args.batch c.in-Ok-Some.count (g.L.Link.counts c.count_parts.new.link) (g.L.Link.counts c.store.new.link) c.in-Err-store.e _ keeps.0 keeps.1 count inside
-    c.requires.named unknown c.in-Err-store.ensures.cause.cause c.failed-in-Err-store.ensures.reply
-
-pub returns-in-Err-store-clause-keeps : goal.returns-in-Err-store-clause-keeps
-returns-in-Err-store-clause-keeps g c = λ tells.
-    let first = c.count_parts.ensures.keeps tells in
-    let second = c.store.ensures.keeps (c.count_parts.ensures.telling tells) in
-    kept_through (g.L.Link.log c.args.link.now) (g.L.Link.log c.count_parts.new.link) (g.L.Link.log c.store.new.link) first.0 first.2 second.0 second.1
+    ends_failed a m b c.args.topic.now c.args.batch c.in-Ok-Some.count ((g.L.Link.stand c.count_parts.new.link).counts) ((g.L.Link.stand c.store.new.link).counts) c.in-Err-store.e _ keeps (read.none tells) count inside
+    c.requires.named unknown c.in-Err-store.ensures.goes.answers.cause c.failed-in-Err-store.ensures.reply

@@ -20,10 +20,10 @@ use Rattle.std.specs.Prelude.{All}
 use Rattle.producer.proofs.send.store.Goals as goal
 
 pub returns-in_err-parts-clause-unknown : goal.returns-in_err-parts-clause-unknown
-returns-in_err-parts-clause-unknown g c = λ tells. on_err c.from_residual-in_err-parts.result _ (untouched (g.L.Link.log c.args.link.now) c.args.topic.now (map payload_of c.args.rows))
+returns-in_err-parts-clause-unknown g c = λ tells. on_err c.from_residual-in_err-parts.result _ (untouched ((g.L.Link.stand c.args.link.now).log) c.args.topic.now (map payload_of c.args.rows))
 
 pub returns-in_err-numbers-clause-unknown : goal.returns-in_err-numbers-clause-unknown
-returns-in_err-numbers-clause-unknown g c = λ tells. on_err c.from_residual.result _ (untouched (g.L.Link.log c.args.link.now) c.args.topic.now (map payload_of c.args.rows))
+returns-in_err-numbers-clause-unknown g c = λ tells. on_err c.from_residual.result _ (untouched ((g.L.Link.stand c.args.link.now).log) c.args.topic.now (map payload_of c.args.rows))
 
 pub produce-requires : goal.produce-requires
 produce-requires g c =
@@ -31,24 +31,24 @@ produce-requires g c =
 
 pub returns-in_err-placed-clause-unknown : goal.returns-in_err-placed-clause-unknown
 returns-in_err-placed-clause-unknown g c = λ tells.
-    let a : Log = g.L.Link.log c.args.link.now in
-    let b : Log = g.L.Link.log c.produce.new.self in
+    let a : Log = (g.L.Link.stand c.args.link.now).log in
+    let b : Log = (g.L.Link.stand c.produce.new.self).log in
     on_err c.from_residual-in_err-placed.result _
     (unknown a b c.args.topic.now (map payload_of c.args.rows)
     (subst (MayBePlaced a b c.args.topic.now) (c.as_slice.ensures.value ∙ c.in_ok-parts.ensures) (c.in_err-placed.ensures.failed tells)))
 
 pub returns-in_err-told-clause-unknown : goal.returns-in_err-told-clause-unknown
 returns-in_err-told-clause-unknown g c = λ tells.
-    let a : Log = g.L.Link.log c.args.link.now in
-    let b : Log = g.L.Link.log c.produce.new.self in
+    let a : Log = (g.L.Link.stand c.args.link.now).log in
+    let b : Log = (g.L.Link.stand c.produce.new.self).log in
     on_err c.from_residual-in_err-told.result _
     (unknown a b c.args.topic.now (map payload_of c.args.rows)
     (subst (MayBePlaced a b c.args.topic.now) (c.as_slice.ensures.value ∙ c.in_ok-parts.ensures) (c.in_ok-placed.placed, c.in_ok-placed.ensures.placed tells)))
 
 pub returns-clause-answered : goal.returns-clause-answered
 returns-clause-answered g c = λ tells.
-    let a : Log = g.L.Link.log c.args.link.now in
-    let b : Log = g.L.Link.log c.produce.new.self in
+    let a : Log = (g.L.Link.stand c.args.link.now).log in
+    let b : Log = (g.L.Link.stand c.produce.new.self).log in
     let payloads : List Payload = map payload_of c.args.rows in
     let placed : List PartPlaced = c.in_ok-placed.placed in
     let same : c.as_slice.result.now ≡ grouped [] payloads = c.as_slice.ensures.value ∙ c.in_ok-parts.ensures in
@@ -62,8 +62,8 @@ returns-clause-answered g c = λ tells.
 
 pub returns-clause-lacked : goal.returns-clause-lacked
 returns-clause-lacked g c = λ plain tells.
-    let a : Log = g.L.Link.log c.args.link.now in
-    let b : Log = g.L.Link.log c.produce.new.self in
+    let a : Log = (g.L.Link.stand c.args.link.now).log in
+    let b : Log = (g.L.Link.stand c.produce.new.self).log in
     let payloads : List Payload = map payload_of c.args.rows in
     let placed : List PartPlaced = c.in_ok-placed.placed in
     let same : c.as_slice.result.now ≡ grouped [] payloads = c.as_slice.ensures.value ∙ c.in_ok-parts.ensures in
@@ -84,7 +84,7 @@ returns-clause-codes g c =
     let told : c.in_ok-told.told ≡ told_by (map cursor_of placed) (map (λ (p : Payload). p.partition) payloads) =
     c.in_ok-told.ensures ∙ (ap (λ (ps : List PartPlaced). told_by (map cursor_of ps) c.as_slice-2.result.now) c.as_slice-3.ensures
     ∙ ap (λ (ns : List ℕ). told_by (map cursor_of placed) ns) (c.as_slice-2.ensures.value ∙ (c.in_ok-numbers.ensures ∙ numbers_are c.args.rows))) in
-    refusal_counted (g.L.Link.counts c.args.link.now) (g.L.Link.counts c.produce.new.self) payloads placed c.in_ok-told.told asked told c.in_ok-placed.ensures.codes
+    refusal_counted ((g.L.Link.stand c.args.link.now).counts) ((g.L.Link.stand c.produce.new.self).counts) payloads placed c.in_ok-told.told asked told c.in_ok-placed.ensures.codes
 
 pub returns-clause-whose : goal.returns-clause-whose
 returns-clause-whose g c =

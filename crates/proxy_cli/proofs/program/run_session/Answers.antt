@@ -1,13 +1,14 @@
 use Rattle.std.proofs.Common.{◌≡◌, ◌∙◌, ap, sym, subst, refl, inr, [], List, ℕ}
-use Rattle.std.specs.Prelude.{⊤}
 use Rattle.model.specs.Log.{IsLog, shape_of}
 use Rattle.broker_link.specs.Made.{ArePlans, empty_log, no_counts}
 use Rattle.broker_link.specs.Stored.{log_of, log_with}
 use Rattle.broker_link.specs.declared.memory.MemLink.{MemLink}
-use Rattle.proxy_cli.specs.Served.{Station, station}
-use Rattle.proxy_cli.specs.Session.{first_station, ServesAll, ServesSome, ServesFirst, ServesUntil}
+use Rattle.desk.specs.Shelf.{world_in}
+use Rattle.proxy_cli.specs.Served.{Gateway}
+use Rattle.proxy_cli.specs.Session.{first_gateway}
 use Rattle.proxy_cli.specs.Words.{advertise_of, plans_of}
-use Rattle.proxy_cli.proofs.Plainly.{all_plainly, first_plainly, some_plainly, until_plainly, moved}
+use Rattle.proxy_cli.proofs.Answered.{session_answers}
+use Rattle.proxy_cli.proofs.Sessions.{all_so, first_so, some_so, until_so}
 use Rattle.proxy_cli.proofs.Statuses.{zero_is, three_is, four_is, seven_is}
 use Rattle.proxy_cli.proofs.program.run_session.Goals as goal
 
@@ -24,12 +25,13 @@ returns-clause-output g c = λ zero.
     ap (λ (l : MemLink). log_with l.topics.list.items l.others) link_is ∙ (c.in-Ok-new.ensures.log ∙ ap (λ (ps : List (List ℕ × ℕ)). empty_log ps) c.topics_in.ensures) in
     let counts_is : made.shard.link.tally ≡ no_counts = ap (λ (l : MemLink). l.tally) link_is ∙ c.in-Ok-new.ensures.counts in
     let name_is : made.shard.advertise ≡ advertise_of command = c.new-desk.ensures.advertise ∙ (c.in-Ok-from_str.ensures ∙ c.advertise_in.ensures) in
-    let first : Station = station made.shard.instances.items made.shard.last (log_with made.shard.link.topics.list.items made.shard.link.others) made.shard.link.tally (g.C.Clock.hand c.args.clock.now) made.unnamed in
-    let end : Station = station done.shard.instances.items done.shard.last (log_with done.shard.link.topics.list.items done.shard.link.others) done.shard.link.tally (g.C.Clock.hand c.serve_stream-served.new.clock) done.unnamed in
-    let start : first ≡ first_station command (g.C.Clock.hand c.args.clock.now) =
-    (λ i. station (c.new-desk.ensures.instances i) (c.new-desk.ensures.last i) (log_is i) (counts_is i) (g.C.Clock.hand c.args.clock.now) (c.new-desk.ensures.unnamed i)) in
+    let first : Gateway = record { state = record { world = world_in made.shard.instances made.shard.last; log = log_with made.shard.link.topics.list.items made.shard.link.others; hand = g.C.Clock.hand c.args.clock.now; counts = made.shard.link.tally }; unnamed = made.unnamed } in
+    let end : Gateway = record { state = record { world = world_in done.shard.instances done.shard.last; log = log_with done.shard.link.topics.list.items done.shard.link.others; hand = g.C.Clock.hand c.serve_stream-served.new.clock; counts = done.shard.link.tally }; unnamed = done.unnamed } in
+    let start : first ≡ first_gateway command (g.C.Clock.hand c.args.clock.now) =
+    (λ i. record { state = record { world = c.new-desk.ensures.instances i; log = log_is i; hand = g.C.Clock.hand c.args.clock.now; counts = counts_is i }; unnamed = c.new-desk.ensures.unnamed i }) in
+    let so = session_answers _ plain (g.C.Clock.tells c.args.clock.now) made.shard.advertise (advertise_of command) first (first_gateway command (g.C.Clock.hand c.args.clock.now)) end name_is start in
     let said = zero_is c.serve_stream-served.result _ (sym c.status_of.ensures ∙ zero) c.serve_stream-served.ensures.output in
-    (command, c.in-Ok.ensures.words, end, refl, moved (λ (a : List ℕ) (s : Station). ServesAll ⊤ (g.C.Clock.tells c.args.clock.now) a s (g.S.Source.left c.args.src.now) (g.K.Sink.held c.args.sink.now) (g.K.Sink.held c.serve_stream-served.new.sink) end) made.shard.advertise (advertise_of command) first (first_station command (g.C.Clock.hand c.args.clock.now)) name_is start (all_plainly _ plain (g.C.Clock.tells c.args.clock.now) made.shard.advertise first (g.S.Source.left c.args.src.now) (g.K.Sink.held c.args.sink.now) (g.K.Sink.held c.serve_stream-served.new.sink) end (said tells is_log)))
+    (command, c.in-Ok.ensures.words, end, refl, all_so _ _ so _ _ _ (said (tells, is_log)))
 
 pub returns-clause-lost : goal.returns-clause-lost
 returns-clause-lost g c = λ three.
@@ -44,12 +46,13 @@ returns-clause-lost g c = λ three.
     ap (λ (l : MemLink). log_with l.topics.list.items l.others) link_is ∙ (c.in-Ok-new.ensures.log ∙ ap (λ (ps : List (List ℕ × ℕ)). empty_log ps) c.topics_in.ensures) in
     let counts_is : made.shard.link.tally ≡ no_counts = ap (λ (l : MemLink). l.tally) link_is ∙ c.in-Ok-new.ensures.counts in
     let name_is : made.shard.advertise ≡ advertise_of command = c.new-desk.ensures.advertise ∙ (c.in-Ok-from_str.ensures ∙ c.advertise_in.ensures) in
-    let first : Station = station made.shard.instances.items made.shard.last (log_with made.shard.link.topics.list.items made.shard.link.others) made.shard.link.tally (g.C.Clock.hand c.args.clock.now) made.unnamed in
-    let end : Station = station done.shard.instances.items done.shard.last (log_with done.shard.link.topics.list.items done.shard.link.others) done.shard.link.tally (g.C.Clock.hand c.serve_stream-served.new.clock) done.unnamed in
-    let start : first ≡ first_station command (g.C.Clock.hand c.args.clock.now) =
-    (λ i. station (c.new-desk.ensures.instances i) (c.new-desk.ensures.last i) (log_is i) (counts_is i) (g.C.Clock.hand c.args.clock.now) (c.new-desk.ensures.unnamed i)) in
+    let first : Gateway = record { state = record { world = world_in made.shard.instances made.shard.last; log = log_with made.shard.link.topics.list.items made.shard.link.others; hand = g.C.Clock.hand c.args.clock.now; counts = made.shard.link.tally }; unnamed = made.unnamed } in
+    let end : Gateway = record { state = record { world = world_in done.shard.instances done.shard.last; log = log_with done.shard.link.topics.list.items done.shard.link.others; hand = g.C.Clock.hand c.serve_stream-served.new.clock; counts = done.shard.link.tally }; unnamed = done.unnamed } in
+    let start : first ≡ first_gateway command (g.C.Clock.hand c.args.clock.now) =
+    (λ i. record { state = record { world = c.new-desk.ensures.instances i; log = log_is i; hand = g.C.Clock.hand c.args.clock.now; counts = counts_is i }; unnamed = c.new-desk.ensures.unnamed i }) in
+    let so = session_answers _ plain (g.C.Clock.tells c.args.clock.now) made.shard.advertise (advertise_of command) first (first_gateway command (g.C.Clock.hand c.args.clock.now)) end name_is start in
     let said = c.serve_stream-served.ensures.lost (three_is c.serve_stream-served.result (sym c.status_of.ensures ∙ three)) in
-    (command, c.in-Ok.ensures.words, end, refl, moved (λ (a : List ℕ) (s : Station). ServesSome ⊤ (g.C.Clock.tells c.args.clock.now) a s (g.S.Source.left c.args.src.now) (g.S.Source.left c.serve_stream-served.new.source) (g.K.Sink.held c.args.sink.now) (g.K.Sink.held c.serve_stream-served.new.sink) end) made.shard.advertise (advertise_of command) first (first_station command (g.C.Clock.hand c.args.clock.now)) name_is start (some_plainly _ plain (g.C.Clock.tells c.args.clock.now) made.shard.advertise first (g.S.Source.left c.args.src.now) (g.S.Source.left c.serve_stream-served.new.source) (g.K.Sink.held c.args.sink.now) (g.K.Sink.held c.serve_stream-served.new.sink) end (said tells is_log)))
+    (command, c.in-Ok.ensures.words, end, refl, some_so _ _ so _ _ _ _ (said (tells, is_log)))
 
 pub returns-clause-cut : goal.returns-clause-cut
 returns-clause-cut g c = λ four.
@@ -64,13 +67,14 @@ returns-clause-cut g c = λ four.
     ap (λ (l : MemLink). log_with l.topics.list.items l.others) link_is ∙ (c.in-Ok-new.ensures.log ∙ ap (λ (ps : List (List ℕ × ℕ)). empty_log ps) c.topics_in.ensures) in
     let counts_is : made.shard.link.tally ≡ no_counts = ap (λ (l : MemLink). l.tally) link_is ∙ c.in-Ok-new.ensures.counts in
     let name_is : made.shard.advertise ≡ advertise_of command = c.new-desk.ensures.advertise ∙ (c.in-Ok-from_str.ensures ∙ c.advertise_in.ensures) in
-    let first : Station = station made.shard.instances.items made.shard.last (log_with made.shard.link.topics.list.items made.shard.link.others) made.shard.link.tally (g.C.Clock.hand c.args.clock.now) made.unnamed in
-    let end : Station = station done.shard.instances.items done.shard.last (log_with done.shard.link.topics.list.items done.shard.link.others) done.shard.link.tally (g.C.Clock.hand c.serve_stream-served.new.clock) done.unnamed in
-    let start : first ≡ first_station command (g.C.Clock.hand c.args.clock.now) =
-    (λ i. station (c.new-desk.ensures.instances i) (c.new-desk.ensures.last i) (log_is i) (counts_is i) (g.C.Clock.hand c.args.clock.now) (c.new-desk.ensures.unnamed i)) in
+    let first : Gateway = record { state = record { world = world_in made.shard.instances made.shard.last; log = log_with made.shard.link.topics.list.items made.shard.link.others; hand = g.C.Clock.hand c.args.clock.now; counts = made.shard.link.tally }; unnamed = made.unnamed } in
+    let end : Gateway = record { state = record { world = world_in done.shard.instances done.shard.last; log = log_with done.shard.link.topics.list.items done.shard.link.others; hand = g.C.Clock.hand c.serve_stream-served.new.clock; counts = done.shard.link.tally }; unnamed = done.unnamed } in
+    let start : first ≡ first_gateway command (g.C.Clock.hand c.args.clock.now) =
+    (λ i. record { state = record { world = c.new-desk.ensures.instances i; log = log_is i; hand = g.C.Clock.hand c.args.clock.now; counts = counts_is i }; unnamed = c.new-desk.ensures.unnamed i }) in
+    let so = session_answers _ plain (g.C.Clock.tells c.args.clock.now) made.shard.advertise (advertise_of command) first (first_gateway command (g.C.Clock.hand c.args.clock.now)) end name_is start in
     let fault = four_is c.serve_stream-served.result (sym c.status_of.ensures ∙ four) in
     let said = c.serve_stream-served.ensures.cut fault.0 fault.1 in
-    (command, c.in-Ok.ensures.words, end, refl, (fault.0, moved (λ (a : List ℕ) (s : Station). ServesUntil ⊤ (g.C.Clock.tells c.args.clock.now) a s (g.S.Source.left c.args.src.now) (g.K.Sink.held c.args.sink.now) (g.K.Sink.held c.serve_stream-served.new.sink) fault.0 end) made.shard.advertise (advertise_of command) first (first_station command (g.C.Clock.hand c.args.clock.now)) name_is start (until_plainly _ plain (g.C.Clock.tells c.args.clock.now) made.shard.advertise first (g.S.Source.left c.args.src.now) (g.K.Sink.held c.args.sink.now) (g.K.Sink.held c.serve_stream-served.new.sink) fault.0 end (said tells is_log))))
+    (command, c.in-Ok.ensures.words, end, refl, (fault.0, until_so _ _ so _ _ _ fault.0 (said (tells, is_log))))
 
 pub returns-clause-starved : goal.returns-clause-starved
 returns-clause-starved g c = λ seven.
@@ -85,9 +89,10 @@ returns-clause-starved g c = λ seven.
     ap (λ (l : MemLink). log_with l.topics.list.items l.others) link_is ∙ (c.in-Ok-new.ensures.log ∙ ap (λ (ps : List (List ℕ × ℕ)). empty_log ps) c.topics_in.ensures) in
     let counts_is : made.shard.link.tally ≡ no_counts = ap (λ (l : MemLink). l.tally) link_is ∙ c.in-Ok-new.ensures.counts in
     let name_is : made.shard.advertise ≡ advertise_of command = c.new-desk.ensures.advertise ∙ (c.in-Ok-from_str.ensures ∙ c.advertise_in.ensures) in
-    let first : Station = station made.shard.instances.items made.shard.last (log_with made.shard.link.topics.list.items made.shard.link.others) made.shard.link.tally (g.C.Clock.hand c.args.clock.now) made.unnamed in
-    let end : Station = station done.shard.instances.items done.shard.last (log_with done.shard.link.topics.list.items done.shard.link.others) done.shard.link.tally (g.C.Clock.hand c.serve_stream-served.new.clock) done.unnamed in
-    let start : first ≡ first_station command (g.C.Clock.hand c.args.clock.now) =
-    (λ i. station (c.new-desk.ensures.instances i) (c.new-desk.ensures.last i) (log_is i) (counts_is i) (g.C.Clock.hand c.args.clock.now) (c.new-desk.ensures.unnamed i)) in
+    let first : Gateway = record { state = record { world = world_in made.shard.instances made.shard.last; log = log_with made.shard.link.topics.list.items made.shard.link.others; hand = g.C.Clock.hand c.args.clock.now; counts = made.shard.link.tally }; unnamed = made.unnamed } in
+    let end : Gateway = record { state = record { world = world_in done.shard.instances done.shard.last; log = log_with done.shard.link.topics.list.items done.shard.link.others; hand = g.C.Clock.hand c.serve_stream-served.new.clock; counts = done.shard.link.tally }; unnamed = done.unnamed } in
+    let start : first ≡ first_gateway command (g.C.Clock.hand c.args.clock.now) =
+    (λ i. record { state = record { world = c.new-desk.ensures.instances i; log = log_is i; hand = g.C.Clock.hand c.args.clock.now; counts = counts_is i }; unnamed = c.new-desk.ensures.unnamed i }) in
+    let so = session_answers _ plain (g.C.Clock.tells c.args.clock.now) made.shard.advertise (advertise_of command) first (first_gateway command (g.C.Clock.hand c.args.clock.now)) end name_is start in
     let said = c.serve_stream-served.ensures.starved (seven_is c.serve_stream-served.result (sym c.status_of.ensures ∙ seven)) in
-    inr (command, c.in-Ok.ensures.words, end, refl, moved (λ (a : List ℕ) (s : Station). ServesFirst ⊤ (g.C.Clock.tells c.args.clock.now) a s (g.S.Source.left c.args.src.now) (g.K.Sink.held c.args.sink.now) (g.K.Sink.held c.serve_stream-served.new.sink) end) made.shard.advertise (advertise_of command) first (first_station command (g.C.Clock.hand c.args.clock.now)) name_is start (first_plainly _ plain (g.C.Clock.tells c.args.clock.now) made.shard.advertise first (g.S.Source.left c.args.src.now) (g.K.Sink.held c.args.sink.now) (g.K.Sink.held c.serve_stream-served.new.sink) end (said tells is_log)))
+    inr (command, c.in-Ok.ensures.words, end, refl, first_so _ _ so _ _ _ (said (tells, is_log)))

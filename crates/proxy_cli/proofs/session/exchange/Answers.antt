@@ -7,11 +7,11 @@ use Rattle.proxy_cli.proofs.Wants.{answered_wants}
 use Rattle.proxy_cli.proofs.session.exchange.Goals as goal
 
 pub returns-in-Ok-clause-answered : goal.returns-in-Ok-clause-answered
-returns-in-Ok-clause-answered g c = λ tells is.
-    let found = c.answer-reply.ensures.answered tells is in
+returns-in-Ok-clause-answered g c = λ known.
+    let found = c.answer-reply.ensures.answered known in
     elim (either c.in-Ok.field-0) [
-      | inl e ↦ (c.answer-reply.result, found.0, found.1, c.in-Ok.ensures.whole (ap (λ (b : Bool). Ok b) e))
-      | inr e ↦ (Want, found.0, answered_wants _ _ _ _ _ _ _ _ found.1, c.in-Ok.ensures.wanting (ap (λ (b : Bool). Ok b) e))
+      | inl e ↦ (c.answer-reply.result, found, c.in-Ok.ensures.whole (ap (λ (b : Bool). Ok b) e))
+      | inr e ↦ (Want, (found.0, answered_wants _ _ _ _ _ _ _ _ _ _ found.1), c.in-Ok.ensures.wanting (ap (λ (b : Bool). Ok b) e))
     ]
   where
     either : (b : Bool) → (b ≡ true) ⊎ (b ≡ false)
@@ -19,10 +19,10 @@ returns-in-Ok-clause-answered g c = λ tells is.
     either false = inr refl
 
 pub returns-clause-cut : goal.returns-clause-cut
-returns-clause-cut g c = λ n e tells log.
+returns-clause-cut g c = λ n e known.
     let is : c.in-Err.e ≡ WriteFault n = cc in
-    let found = c.answer-reply.ensures.answered tells log in
+    let found = c.answer-reply.ensures.answered known in
     elim (c.in-Err.ensures.cut n (ap (λ (x : ConnNo). Err x) is)) [
-      | inl whole ↦ (c.answer-reply.result, found.0, found.1, whole)
-      | inr want ↦ (Want, found.0, answered_wants _ _ _ _ _ _ _ _ found.1, want)
+      | inl whole ↦ (c.answer-reply.result, found, whole)
+      | inr want ↦ (Want, (found.0, answered_wants _ _ _ _ _ _ _ _ _ _ found.1), want)
     ]

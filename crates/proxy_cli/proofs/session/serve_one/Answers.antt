@@ -10,35 +10,33 @@ use Rattle.proxy_cli.proofs.Wants.{nothing_appended}
 use Rattle.proxy_cli.proofs.session.serve_one.Goals as goal
 
 pub returns-in-Ok-clause-served : goal.returns-in-Ok-clause-served
-returns-in-Ok-clause-served g c = λ e tells is all comes.
+returns-in-Ok-clause-served g c = λ e known all comes.
     let given = rw c.in-Ok-Ready.field-0-is at (c.in-Ok-Ready.ensures.given c.requires) in
     let front = given all comes in
-    let said = c.in-Ok.ensures.answered tells is in
+    let said = c.in-Ok.ensures.answered known in
     record {
       request = c.in-Ok-Ready.request;
       reply = said.0;
       rest = front.0;
       comes = subst (λ (k : Conn). Comes k.held (g.S.Source.left c.next.new.source) front.0) (sym c.in-Ok.ensures.same) front.1;
       is = front.2;
-      own = said.1;
-      answered = said.2;
-      wrote = subst (λ (b : Bool). Appends (g.K.Sink.held c.args.sink.now) (g.K.Sink.held c.exchange.new.sink) (response_of said.0 b)) c.closes-close.ensures said.3;
+      answered = said.1;
+      wrote = subst (λ (b : Bool). Appends (g.K.Sink.held c.args.sink.now) (g.K.Sink.held c.exchange.new.sink) (response_of said.0 b)) c.closes-close.ensures said.2;
     }
 
 pub returns-in-Ok-Ready-clause-cut : goal.returns-in-Ok-Ready-clause-cut
-returns-in-Ok-Ready-clause-cut g c = λ n e tells is all comes.
+returns-in-Ok-Ready-clause-cut g c = λ n e known all comes.
     let fault : c.in-Err-exchange.e ≡ WriteFault n = cc in
     let given = rw c.in-Ok-Ready.field-0-is at (c.in-Ok-Ready.ensures.given c.requires) in
     let front = given all comes in
-    let said = c.in-Err-exchange.ensures.cut n (ap (λ (x : ConnNo). Err x) fault) tells is in
+    let said = c.in-Err-exchange.ensures.cut n (ap (λ (x : ConnNo). Err x) fault) known in
     inl (record {
       request = c.in-Ok-Ready.request;
       reply = said.0;
       rest = front.0;
       is = front.2;
-      own = said.1;
-      answered = said.2;
-      cut = subst (λ (b : Bool). CutAt n (response_of said.0 b) (g.K.Sink.held c.args.sink.now) (g.K.Sink.held c.exchange.new.sink)) c.closes-close.ensures said.3;
+      answered = said.1;
+      cut = subst (λ (b : Bool). CutAt n (response_of said.0 b) (g.K.Sink.held c.args.sink.now) (g.K.Sink.held c.exchange.new.sink)) c.closes-close.ensures said.2;
     })
 
 pub returns-in-Ok-CutShort-clause-ended : goal.returns-in-Ok-CutShort-clause-ended

@@ -17,4 +17,4 @@ loop-number-preserved c =
 pub returns-clause-ok : goal.returns-clause-ok
 returns-clause-ok c =
     let whole = groups_ended c.args.more c.loop-number.count c.loop-number.number c.loop-number.groups _ (omega arith) c.loop-number-test.false c.loop-number.invariant.written in
-    rw whole at c.put.ensures.ok
+    rw whole at c.put-2.ensures.ok

@@ -1,0 +1,41 @@
+-- Calls one after another.
+use Rattle.std.proofs.Common.{◌≡◌, ◌∙◌, refl, arith}
+use Rattle.model.specs.Log.{Log}
+use Rattle.model.specs.Fixed.{SameCommits}
+use Rattle.model.proofs.Stretches.{keeps_itself, keeps_on}
+use Rattle.broker_link.specs.Causes.{Counts}
+use Rattle.broker_link.specs.Replies.{CountsKept}
+use Rattle.broker_link.specs.Stands.{Goes, Stand}
+
+counts_on : (c d e : Counts) → CountsKept c d → CountsKept d e → CountsKept c e
+counts_on c d e first second = record {
+  faults_kept = omega (arith, first.faults_kept, second.faults_kept);
+  refusals_kept = omega (arith, first.refusals_kept, second.refusals_kept);
+  sent_kept = omega (arith, first.sent_kept, second.sent_kept);
+  polls_kept = omega (arith, first.polls_kept, second.polls_kept);
+  beats_kept = omega (arith, first.beats_kept, second.beats_kept);
+}
+
+pub goes_on : (a b c : Stand) → Goes a b → Goes b c → Goes a c
+goes_on a b c first second = record {
+  telling = λ tells. second.telling (first.telling tells);
+  keeps = λ tells. keeps_on a.log b.log c.log (first.keeps tells) (second.keeps (first.telling tells));
+  is_log = λ tells is. second.is_log (first.telling tells) (first.is_log tells is);
+  plainly = λ plain. second.plainly (first.plainly plain);
+  alone = λ plain. second.alone (first.plainly plain) ∙ first.alone plain;
+  counts = counts_on a.counts b.counts c.counts first.counts second.counts;
+}
+
+pub same_commits_on : (a b c : Log) → SameCommits a b → SameCommits b c → SameCommits a c
+same_commits_on a b c first second = λ group at. second group at ∙ first group at
+
+-- no call
+pub goes_nowhere : (a : Stand) → Goes a a
+goes_nowhere a = record {
+  telling = λ t. t;
+  keeps = λ t. keeps_itself a.log;
+  is_log = λ t is. is;
+  plainly = λ p. p;
+  alone = λ p. refl;
+  counts = record { faults_kept = omega arith; refusals_kept = omega arith; sent_kept = omega arith; polls_kept = omega arith; beats_kept = omega arith };
+}

@@ -1,0 +1,44 @@
+-- How a link stands, and what a call of it leaves.
+use Rattle.std.specs.Prelude.{◌≡◌, Result, OnOk, IfErr}
+use Rattle.gate_io.specs.Counts.{Rose}
+use Rattle.model.specs.Log.{Log, Keeps, IsLog}
+use Rattle.model.specs.Fixed.{SameCommits}
+use Rattle.model.specs.Produced.{NoneAdded}
+use Rattle.broker_link.specs.Causes.{Counts, ComesOf}
+use Rattle.broker_link.specs.Replies.{CountsKept}
+use Rattle.broker_link.specs.declared.link.LinkNo.{LinkNo}
+
+-- How a link stands: its log with the commits beside it, where it tells them; whether nothing but want of memory
+-- and what the log lacks makes a call of it fail, and nobody else adds rows; and what it counts.
+pub record Stand : Type 1 where
+  pub tells : Type 0
+  pub plain : Type 0
+  pub log : Log
+  pub counts : Counts
+
+-- A link went on from `a` to `b`.
+pub record Goes (a b : Stand) : Type 0 where
+  pub telling : a.tells → b.tells
+  pub keeps : a.tells → Keeps a.log b.log
+  pub is_log : a.tells → IsLog a.log → IsLog b.log
+  pub plainly : a.plain → b.plain
+  pub alone : a.plain → (let l = b.log in l.others) ≡ (let l = a.log in l.others)
+  pub counts : CountsKept a.counts b.counts
+
+-- the answer of a call, other than Ok, has its cause in the counts
+pub record Answers {T : Type 0} (a b : Stand) (result : Result T LinkNo) : Type 0 where
+  pub went : OnOk result (Rose a.counts.sent b.counts.sent)
+  pub cause : IfErr result (ComesOf a.counts b.counts)
+
+-- a call went so
+pub record Calls {T : Type 0} (a b : Stand) (result : Result T LinkNo) : Type 0 where
+  pub goes : Goes a b
+  pub commits : a.tells → SameCommits a.log b.log
+  pub answers : Answers a b result
+
+-- a call that only reads went so
+pub record Reads {T : Type 0} (a b : Stand) (result : Result T LinkNo) : Type 0 where
+  pub goes : Goes a b
+  pub none : a.tells → NoneAdded a.log b.log
+  pub commits : a.tells → SameCommits a.log b.log
+  pub answers : Answers a b result

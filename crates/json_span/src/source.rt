@@ -1,0 +1,66 @@
+ghost use Rattle.std.specs.Prelude.{◌≡◌, ◌+◌, ◌++◌, [], ◌∷◌, length};
+ghost use Rattle.std.specs.Prelude.{IfOk, IfErr, OnOk};
+ghost use Rattle.json_span.specs.Steps.{Adds};
+
+use crate::error::JsonNo;
+use crate::state::Open;
+use crate::tree::{Form, Tree};
+
+/// Puts a byte behind the source text.
+pub(crate) fn push_byte(source: &mut Vec<u8>, byte: u8) -> Result<(), JsonNo>
+    ensures ok { OnOk result (source.new.items ≡ source.old.items ++ byte ∷ []) }
+    ensures want { IfErr result (λ e. e ≡ JsonNo.Want) }
+{
+    match source.push(byte) {
+        Ok(()) => Ok(()),
+        Err(_) => Err(JsonNo::Want),
+    }
+}
+
+/// Opens an array or an object.
+pub(crate) fn push_open(opens: &mut Vec<Open>, opened: Open) -> Result<(), JsonNo>
+    ensures ok { OnOk result (opens.new.items ≡ opens.old.items ++ opened ∷ []) }
+    ensures want { IfErr result (λ e. e ≡ JsonNo.Want) }
+{
+    match opens.push(opened) {
+        Ok(()) => Ok(()),
+        Err(_) => Err(JsonNo::Want),
+    }
+}
+
+/// Puts bytes behind the source text.
+pub(crate) fn push_bytes(source: &mut Vec<u8>, bytes: &[u8]) -> Result<(), JsonNo>
+    ensures ok { OnOk result (source.new.items ≡ source.old.items ++ bytes.now) }
+    ensures want { IfErr result (λ e. e ≡ JsonNo.Want) }
+{
+    match source.extend_from_slice(bytes) {
+        Ok(()) => Ok(()),
+        Err(_) => Err(JsonNo::Want),
+    }
+}
+
+/// Puts the bytes behind the source text and makes a node of them.
+pub(crate) fn add_token(bytes: &[u8], form: Form, tree: &mut Tree) -> Result<u32, JsonNo>
+    ensures ok { IfOk result (Adds tree.old.nodes.items tree.new.nodes.items
+        tree.old.source.items bytes.now form tree.new.source.items) }
+    ensures want { IfErr result (λ e. e ≡ JsonNo.Want) }
+{
+    let start = tree.source.len();
+    match tree.source.extend_from_slice(bytes) {
+        Ok(()) => tree.add(start, form),
+        Err(_) => Err(JsonNo::Want),
+    }
+}
+
+/// Puts the closing bracket and makes the node.
+pub(crate) fn close(bracket: u8, start: usize, form: Form, tree: &mut Tree) -> Result<u32, JsonNo>
+    ensures source { OnOk result (tree.new.source.items ≡ tree.old.source.items ++ bracket ∷ []) }
+    ensures ok { IfOk result (λ k. (k ≡ length tree.old.nodes.items) × (tree.new.nodes.items
+        ≡ tree.old.nodes.items ++ (record { start = start; end = length tree.old.source.items + 1; form = form } ∷ []))) }
+    ensures want { IfErr result (λ e. e ≡ JsonNo.Want) }
+{
+    match push_byte(&mut tree.source, bracket) {
+        Ok(()) => tree.add(start, form),
+        Err(e) => Err(e),
+    }
+}

@@ -1,0 +1,31 @@
+-- What is said of a session is said in any other words that its requests and replies have.
+use Rattle.std.proofs.Common.{◌≡◌, ℕ, List, Option}
+use Rattle.rest_codes.specs.declared.response.Reply.{Reply}
+use Rattle.http_conn.specs.declared.request.Request.{Request}
+use Rattle.proxy_cli.specs.Session.{CutOff, Lost, ServesAll, ServesFirst, ServesSome, ServesUntil, Starved, Whole}
+use Rattle.proxy_cli.proofs.Progress.{Said}
+
+module _ (answers answers2 : Said) (so : (qs : List Request) (rs : List Reply) → answers qs rs → answers2 qs rs) where
+  pub all_so : (left held held2 : Option (List ℕ)) → ServesAll answers left held held2 → ServesAll answers2 left held held2
+  all_so left held held2 said = λ input is.
+      let x = said input is in
+      let w = x.2 in
+      (x.0, x.1, record { requests = w.requests; ending = w.ending; stream = w.stream; replies = w.replies; answered = so w.requests w.replies w.answered; last = w.last; ends = w.ends; output = w.output })
+
+  pub some_so : (left left2 held held2 : Option (List ℕ)) → ServesSome answers left left2 held held2 → ServesSome answers2 left left2 held held2
+  some_so left left2 held held2 said = λ input is.
+      let x = said input is in
+      let w = x.4 in
+      (x.0, x.1, x.2, x.3, record { requests = w.requests; stream = w.stream; replies = w.replies; answered = so w.requests w.replies w.answered; output = w.output })
+
+  pub first_so : (left held held2 : Option (List ℕ)) → ServesFirst answers left held held2 → ServesFirst answers2 left held held2
+  first_so left held held2 said = λ input is.
+      let x = said input is in
+      let w = x.2 in
+      (x.0, x.1, record { requests = w.requests; rest = w.rest; begins = w.begins; replies = w.replies; answered = so w.requests w.replies w.answered; output = w.output })
+
+  pub until_so : (left held held2 : Option (List ℕ)) (n : ℕ) → ServesUntil answers left held held2 n → ServesUntil answers2 left held held2 n
+  until_so left held held2 n said = λ input is.
+      let x = said input is in
+      let w = x.2 in
+      (x.0, x.1, record { requests = w.requests; rest = w.rest; begins = w.begins; replies = w.replies; answered = so w.requests w.replies w.answered; before = w.before; last = w.last; cut = w.cut; within = w.within; output = w.output })
