@@ -1,277 +1,540 @@
-use crate::{run, serve_stream};
+//! Sessions of produces and consumers over two partitions of `orders`. The expected bodies are written by
+//! hand after docs/API.md.
+
+use crate::serve_stream;
+use crate::tests::{WHOLE, story, text};
 use broker_link::{Fail as LinkFail, MemLink};
 use desk::AloneDesk;
-use gate_io::{Clock, Items, MemClock, MemSink, MemSource, Text};
+use gate_io::{Items, MemClock, MemSink, MemSource, Text};
 use std::alloc::Global;
 use std::process::Abort;
 use std::test::Fail;
 
-/// A request by its first line and its body, and the response by its status, the embedded form and the body.
+/// A request by its first line and its body, and its response by status, media type and body.
 #[derive(Clone, Copy)]
 struct Exchange<'a> {
     line: &'a str,
     body: &'a str,
     status: &'a str,
-    form: &'a str,
+    media: &'a str,
     told: &'a str,
 }
+
+/// What a session shows, its exchanges, and the moment at its end.
+type Session<'a> = (&'a str, &'a [Exchange<'a>], &'a str);
 
 const BINARY: &str = "application/vnd.kafka.binary.v2+json";
 
 const PLAIN: &str = "application/vnd.kafka.v2+json";
 
-const GONE: &str = "{\"error_code\":40403,\"message\":\"Consumer instance not found.\"}";
-
-fn push_request(alloc: Global, text: &mut String, line: &str, body: &str) -> Result<(), Fail> {
-    let size = body.len();
-    let head = format!(in alloc;
-        "{line} HTTP/1.1\r\nHost: p\r\nContent-Type: {BINARY}\r\nContent-Length: {size}\r\n\r\n"
-    )?;
-    text.push_str(head.as_str())?;
-    text.push_str(body)?;
-    Ok(())
-}
-
-fn push_response(alloc: Global, text: &mut String, one: &Exchange<'_>) -> Result<(), Fail> {
-    let size = one.told.len();
-    let (status, form) = (one.status, one.form);
-    if size == 0 {
-        text.push_str("HTTP/1.1 204 No Content\r\n\r\n")?;
-        return Ok(());
-    }
-    let head = format!(in alloc;
-        "HTTP/1.1 {status}\r\nContent-Type: {form}\r\nContent-Length: {size}\r\n\r\n"
-    )?;
-    text.push_str(head.as_str())?;
-    text.push_str(one.told)?;
-    Ok(())
-}
-
-/// Runs these exchanges as one session over two partitions of `orders`, from moment 0 on, and
-/// compares what was written and where the clock stands.
-fn is_session(
-    rt: &impl Abort,
-    alloc: Global,
-    exchanges: &[Exchange<'_>],
-    moment: u64,
-) -> Result<(), Fail> {
-    let mut input = String::from_str(alloc, "")?;
-    let mut output = String::from_str(alloc, "")?;
-    for one in exchanges {
-        push_request(alloc, &mut input, one.line, one.body)?;
-        push_response(alloc, &mut output, one)?;
-    }
-    let mut words = Vec::new(alloc);
-    words.push(String::from_str(alloc, "session")?)?;
-    words.push(String::from_str(alloc, "orders:2")?)?;
-    let bytes = Vec::from_slice(alloc, input.as_bytes())?;
-    let mut source = MemSource::new(bytes, usize::MAX, Vec::new(alloc));
-    let mut sink = MemSink::new(alloc, usize::MAX, Vec::new(alloc));
-    let mut err = MemSink::new(alloc, usize::MAX, Vec::new(alloc));
-    let mut clock = MemClock::new(0, Vec::new(alloc));
-    let status = run(
-        alloc,
-        words.as_slice(),
-        &mut source,
-        &mut sink,
-        &mut err,
-        &mut clock,
-    );
-    assert_eq!(rt; status, 0);
-    assert_eq!(rt;
-        str::from_utf8(sink.written()).unwrap_or("?"),
-        output.as_str()
-    );
-    assert_eq!(rt; clock.now_ms(), moment);
-    Ok(())
-}
-
-fn told<'a>(line: &'a str, body: &'a str, status: &'a str, told: &'a str) -> Exchange<'a> {
-    Exchange {
-        line,
-        body,
-        status,
-        form: PLAIN,
-        told,
-    }
-}
-
-fn shown<'a>(line: &'a str, told: &'a str) -> Exchange<'a> {
-    Exchange {
-        line,
-        body: "",
-        status: "200 OK",
-        form: BINARY,
-        told,
-    }
-}
+const EARLIEST: &str = "{\"name\":\"c1\",\"auto.offset.reset\":\"earliest\"}";
 
 const MADE: &str =
     "{\"instance_id\":\"c1\",\"base_uri\":\"http://localhost:8082/consumers/g/instances/c1\"}";
 
-const EARLIEST: &str = "{\"name\":\"c1\",\"auto.offset.reset\":\"earliest\"}";
+const ASSIGN: &str = "POST /consumers/g/instances/c1/assignments";
 
-const FIRST: &str = "{\"partitions\":[{\"topic\":\"orders\",\"partition\":0}]}";
+const PARTITION_0: &str = "{\"partitions\":[{\"topic\":\"orders\",\"partition\":0}]}";
 
-const THREE: &str =
-    "{\"records\":[{\"value\":\"S2Fma2E=\",\"partition\":0},{\"value\":\"S2Fma2E=\",\"partition\":0},{\"value\":\"S2Fma2E=\",\"partition\":0}]}";
+const BOTH: &str =
+    "{\"partitions\":[{\"topic\":\"orders\",\"partition\":0},{\"topic\":\"orders\",\"partition\":1}]}";
 
-const STORED: &str =
-    "{\"offsets\":[{\"partition\":0,\"offset\":0,\"error_code\":null,\"error\":null},{\"partition\":0,\"offset\":1,\"error_code\":null,\"error\":null},{\"partition\":0,\"offset\":2,\"error_code\":null,\"error\":null}],\"key_schema_id\":null,\"value_schema_id\":null}";
+const PRODUCE: &str = "POST /topics/orders";
 
-#[test]
-fn instances_are_made_named_and_deleted(rt: HostRuntime) -> Result<(), Fail> {
-    let exchanges = [
-        told("POST /consumers/g", EARLIEST, "200 OK", MADE),
-        told(
-            "POST /consumers/g",
-            EARLIEST,
-            "409 Conflict",
-            "{\"error_code\":40902,\"message\":\"Consumer instance with the specified name already exists.\"}",
-        ),
-        told(
-            "POST /consumers/g",
-            "",
-            "200 OK",
-            "{\"instance_id\":\"auto-0-1\",\"base_uri\":\"http://localhost:8082/consumers/g/instances/auto-0-1\"}",
-        ),
-        told(
-            "POST /consumers/g",
-            "",
-            "200 OK",
-            "{\"instance_id\":\"auto-0-2\",\"base_uri\":\"http://localhost:8082/consumers/g/instances/auto-0-2\"}",
-        ),
-        told(
-            "POST /consumers/g",
-            "{\"name\":\"auto-x\"}",
-            "422 Unprocessable Entity",
-            "{\"error_code\":42204,\"message\":\"Invalid consumer configuration.\"}",
-        ),
-        told("DELETE /consumers/g/instances/c1", "", "", ""),
-        told(
-            "DELETE /consumers/g/instances/c1",
-            "",
-            "404 Not Found",
-            GONE,
-        ),
-    ];
-    is_session(&rt, rt.alloc(), &exchanges, 0)
-}
+const OK: &str = "200 OK";
 
-#[test]
-fn rows_are_read_one_by_one_within_max_bytes(rt: HostRuntime) -> Result<(), Fail> {
-    let records = "GET /consumers/g/instances/c1/records?timeout=0&max_bytes=1";
-    let exchanges = [
-        told("POST /topics/orders", THREE, "200 OK", STORED),
-        told("POST /consumers/g", EARLIEST, "200 OK", MADE),
-        told("POST /consumers/g/instances/c1/assignments", FIRST, "", ""),
-        told(
-            "GET /consumers/g/instances/c1/assignments",
-            "",
-            "200 OK",
-            FIRST,
-        ),
-        shown(
-            records,
-            "[{\"topic\":\"orders\",\"key\":null,\"value\":\"S2Fma2E=\",\"partition\":0,\"offset\":0}]",
-        ),
-        shown(
-            records,
-            "[{\"topic\":\"orders\",\"key\":null,\"value\":\"S2Fma2E=\",\"partition\":0,\"offset\":1}]",
-        ),
-        shown(
-            records,
-            "[{\"topic\":\"orders\",\"key\":null,\"value\":\"S2Fma2E=\",\"partition\":0,\"offset\":2}]",
-        ),
-        shown(records, "[]"),
-        told(
-            "POST /consumers/g/instances/c1/assignments",
-            "{\"partitions\":[{\"topic\":\"orders\",\"partition\":2}]}",
-            "404 Not Found",
-            "{\"error_code\":40402,\"message\":\"Partition not found.\"}",
-        ),
-        told(
-            "GET /consumers/g/instances/c2/records",
-            "",
-            "404 Not Found",
-            GONE,
-        ),
-    ];
-    is_session(&rt, rt.alloc(), &exchanges, 0)
-}
+const RECORDS: &str = "GET /consumers/g/instances/c1/records?timeout=0";
+
+const ONE_BYTE: &str = "GET /consumers/g/instances/c1/records?timeout=0&max_bytes=1";
+
+const WAITING: &str = "GET /consumers/g/instances/c1/records?timeout=25";
+
+/// A refused produce stores nothing: the offsets behind it tell.
+const PRODUCES: [Exchange<'static>; 9] = [
+    Exchange {
+        line: PRODUCE,
+        body: "{\"records\":[{\"value\":\"S2Fma2E=\",\"partition\":0}]}",
+        status: OK,
+        media: PLAIN,
+        told: "{\"offsets\":[{\"partition\":0,\"offset\":0,\"error_code\":null,\"error\":null}],\"key_schema_id\":null,\"value_schema_id\":null}",
+    },
+    Exchange {
+        line: "POST /topics/nope",
+        body: "{\"records\":[{\"value\":\"S2Fma2E=\",\"partition\":0}]}",
+        status: "404 Not Found",
+        media: PLAIN,
+        told: "{\"error_code\":40401,\"message\":\"Topic not found.\"}",
+    },
+    Exchange {
+        line: PRODUCE,
+        body: "{\"records\":[{\"value\":\"S2Fma2E=\",\"partition\":2}]}",
+        status: "404 Not Found",
+        media: PLAIN,
+        told: "{\"error_code\":40402,\"message\":\"Partition not found.\"}",
+    },
+    Exchange {
+        line: PRODUCE,
+        body: "{\"records\":[]}",
+        status: "422 Unprocessable Entity",
+        media: PLAIN,
+        told: "{\"error_code\":422,\"message\":\"Body does not read.\"}",
+    },
+    Exchange {
+        line: PRODUCE,
+        body: "{\"records\":[{\"value\":\"S2F\",\"partition\":0}]}",
+        status: "422 Unprocessable Entity",
+        media: PLAIN,
+        told: "{\"error_code\":422,\"message\":\"Body does not read.\"}",
+    },
+    Exchange {
+        line: PRODUCE,
+        body: "{\"records\":[{\"value\":\"S2Fma2E=\"}]}",
+        status: "422 Unprocessable Entity",
+        media: PLAIN,
+        told: "{\"error_code\":422,\"message\":\"Body does not read.\"}",
+    },
+    Exchange {
+        line: PRODUCE,
+        body: "{\"records\":[{\"value\":\"S2Fma2E=\",\"partition\":0},{\"partition\":2}]}",
+        status: "404 Not Found",
+        media: PLAIN,
+        told: "{\"error_code\":40402,\"message\":\"Partition not found.\"}",
+    },
+    Exchange {
+        line: PRODUCE,
+        body: "{\"records\":[{\"value\":\"S2Fma2E=\",\"partition\":0},{\"value\":\"S2F\",\"partition\":0}]}",
+        status: "422 Unprocessable Entity",
+        media: PLAIN,
+        told: "{\"error_code\":422,\"message\":\"Body does not read.\"}",
+    },
+    Exchange {
+        line: PRODUCE,
+        body: "{\"records\":[{\"partition\":1},{\"partition\":0},{\"partition\":1}]}",
+        status: OK,
+        media: PLAIN,
+        told: "{\"offsets\":[{\"partition\":1,\"offset\":0,\"error_code\":null,\"error\":null},{\"partition\":0,\"offset\":1,\"error_code\":null,\"error\":null},{\"partition\":1,\"offset\":1,\"error_code\":null,\"error\":null}],\"key_schema_id\":null,\"value_schema_id\":null}",
+    },
+];
+
+const NAMED: [Exchange<'static>; 7] = [
+    Exchange {
+        line: "POST /consumers/g",
+        body: EARLIEST,
+        status: OK,
+        media: PLAIN,
+        told: MADE,
+    },
+    Exchange {
+        line: "POST /consumers/g",
+        body: EARLIEST,
+        status: "409 Conflict",
+        media: PLAIN,
+        told: "{\"error_code\":40902,\"message\":\"Consumer instance with the specified name already exists.\"}",
+    },
+    Exchange {
+        line: "POST /consumers/g",
+        body: "",
+        status: OK,
+        media: PLAIN,
+        told: "{\"instance_id\":\"auto-0-1\",\"base_uri\":\"http://localhost:8082/consumers/g/instances/auto-0-1\"}",
+    },
+    Exchange {
+        line: "POST /consumers/g",
+        body: "",
+        status: OK,
+        media: PLAIN,
+        told: "{\"instance_id\":\"auto-0-2\",\"base_uri\":\"http://localhost:8082/consumers/g/instances/auto-0-2\"}",
+    },
+    Exchange {
+        line: "POST /consumers/g",
+        body: "{\"name\":\"auto-x\"}",
+        status: "422 Unprocessable Entity",
+        media: PLAIN,
+        told: "{\"error_code\":42204,\"message\":\"Invalid consumer configuration.\"}",
+    },
+    Exchange {
+        line: "DELETE /consumers/g/instances/c1",
+        body: "",
+        status: "204 No Content",
+        media: PLAIN,
+        told: "",
+    },
+    Exchange {
+        line: "DELETE /consumers/g/instances/c1",
+        body: "",
+        status: "404 Not Found",
+        media: PLAIN,
+        told: "{\"error_code\":40403,\"message\":\"Consumer instance not found.\"}",
+    },
+];
+
+const ONE_BY_ONE: [Exchange<'static>; 10] = [
+    Exchange {
+        line: PRODUCE,
+        body: "{\"records\":[{\"value\":\"S2Fma2E=\",\"partition\":0},{\"value\":\"S2Fma2E=\",\"partition\":0},{\"value\":\"S2Fma2E=\",\"partition\":0}]}",
+        status: OK,
+        media: PLAIN,
+        told: "{\"offsets\":[{\"partition\":0,\"offset\":0,\"error_code\":null,\"error\":null},{\"partition\":0,\"offset\":1,\"error_code\":null,\"error\":null},{\"partition\":0,\"offset\":2,\"error_code\":null,\"error\":null}],\"key_schema_id\":null,\"value_schema_id\":null}",
+    },
+    Exchange {
+        line: "POST /consumers/g",
+        body: EARLIEST,
+        status: OK,
+        media: PLAIN,
+        told: MADE,
+    },
+    Exchange {
+        line: ASSIGN,
+        body: PARTITION_0,
+        status: "204 No Content",
+        media: PLAIN,
+        told: "",
+    },
+    Exchange {
+        line: "GET /consumers/g/instances/c1/assignments",
+        body: "",
+        status: OK,
+        media: PLAIN,
+        told: PARTITION_0,
+    },
+    Exchange {
+        line: ONE_BYTE,
+        body: "",
+        status: "200 OK",
+        media: BINARY,
+        told: "[{\"topic\":\"orders\",\"key\":null,\"value\":\"S2Fma2E=\",\"partition\":0,\"offset\":0}]",
+    },
+    Exchange {
+        line: ONE_BYTE,
+        body: "",
+        status: "200 OK",
+        media: BINARY,
+        told: "[{\"topic\":\"orders\",\"key\":null,\"value\":\"S2Fma2E=\",\"partition\":0,\"offset\":1}]",
+    },
+    Exchange {
+        line: ONE_BYTE,
+        body: "",
+        status: "200 OK",
+        media: BINARY,
+        told: "[{\"topic\":\"orders\",\"key\":null,\"value\":\"S2Fma2E=\",\"partition\":0,\"offset\":2}]",
+    },
+    Exchange {
+        line: ONE_BYTE,
+        body: "",
+        status: "200 OK",
+        media: BINARY,
+        told: "[]",
+    },
+    Exchange {
+        line: ASSIGN,
+        body: "{\"partitions\":[{\"topic\":\"orders\",\"partition\":2}]}",
+        status: "404 Not Found",
+        media: PLAIN,
+        told: "{\"error_code\":40402,\"message\":\"Partition not found.\"}",
+    },
+    Exchange {
+        line: "GET /consumers/g/instances/c2/records",
+        body: "",
+        status: "404 Not Found",
+        media: PLAIN,
+        told: "{\"error_code\":40403,\"message\":\"Consumer instance not found.\"}",
+    },
+];
+
+const ALL_AT_ONCE: [Exchange<'static>; 5] = [
+    Exchange {
+        line: PRODUCE,
+        body: "{\"records\":[{\"value\":\"S2Fma2E=\",\"partition\":0},{\"value\":\"S2Fma2E=\",\"partition\":1},{\"value\":\"S2Fma2E=\",\"partition\":0},{\"value\":\"S2Fma2E=\",\"partition\":0}]}",
+        status: OK,
+        media: PLAIN,
+        told: "{\"offsets\":[{\"partition\":0,\"offset\":0,\"error_code\":null,\"error\":null},{\"partition\":1,\"offset\":0,\"error_code\":null,\"error\":null},{\"partition\":0,\"offset\":1,\"error_code\":null,\"error\":null},{\"partition\":0,\"offset\":2,\"error_code\":null,\"error\":null}],\"key_schema_id\":null,\"value_schema_id\":null}",
+    },
+    Exchange {
+        line: "POST /consumers/g",
+        body: EARLIEST,
+        status: OK,
+        media: PLAIN,
+        told: MADE,
+    },
+    Exchange {
+        line: ASSIGN,
+        body: BOTH,
+        status: "204 No Content",
+        media: PLAIN,
+        told: "",
+    },
+    Exchange {
+        line: RECORDS,
+        body: "",
+        status: "200 OK",
+        media: BINARY,
+        told: "[{\"topic\":\"orders\",\"key\":null,\"value\":\"S2Fma2E=\",\"partition\":0,\"offset\":0},{\"topic\":\"orders\",\"key\":null,\"value\":\"S2Fma2E=\",\"partition\":0,\"offset\":1},{\"topic\":\"orders\",\"key\":null,\"value\":\"S2Fma2E=\",\"partition\":0,\"offset\":2},{\"topic\":\"orders\",\"key\":null,\"value\":\"S2Fma2E=\",\"partition\":1,\"offset\":0}]",
+    },
+    Exchange {
+        line: RECORDS,
+        body: "",
+        status: "200 OK",
+        media: BINARY,
+        told: "[]",
+    },
+];
 
 /// Each read begins at the partition behind the last one that was read from.
-#[test]
-fn partitions_take_turns(rt: HostRuntime) -> Result<(), Fail> {
-    let records = "GET /consumers/g/instances/c1/records?timeout=0&max_bytes=1";
-    let four =
-        "{\"records\":[{\"value\":\"S2Fma2E=\",\"partition\":0},{\"value\":\"S2Fma2E=\",\"partition\":0},{\"value\":\"S2Fma2E=\",\"partition\":1},{\"value\":\"S2Fma2E=\",\"partition\":1}]}";
-    let stored =
-        "{\"offsets\":[{\"partition\":0,\"offset\":0,\"error_code\":null,\"error\":null},{\"partition\":0,\"offset\":1,\"error_code\":null,\"error\":null},{\"partition\":1,\"offset\":0,\"error_code\":null,\"error\":null},{\"partition\":1,\"offset\":1,\"error_code\":null,\"error\":null}],\"key_schema_id\":null,\"value_schema_id\":null}";
-    let exchanges = [
-        told("POST /topics/orders", four, "200 OK", stored),
-        told("POST /consumers/g", EARLIEST, "200 OK", MADE),
-        told(
-            "POST /consumers/g/instances/c1/assignments",
-            "{\"partitions\":[{\"topic\":\"orders\",\"partition\":0},{\"topic\":\"orders\",\"partition\":1}]}",
-            "",
-            "",
-        ),
-        shown(
-            records,
-            "[{\"topic\":\"orders\",\"key\":null,\"value\":\"S2Fma2E=\",\"partition\":0,\"offset\":0}]",
-        ),
-        shown(
-            records,
-            "[{\"topic\":\"orders\",\"key\":null,\"value\":\"S2Fma2E=\",\"partition\":1,\"offset\":0}]",
-        ),
-        shown(
-            records,
-            "[{\"topic\":\"orders\",\"key\":null,\"value\":\"S2Fma2E=\",\"partition\":0,\"offset\":1}]",
-        ),
-        shown(
-            records,
-            "[{\"topic\":\"orders\",\"key\":null,\"value\":\"S2Fma2E=\",\"partition\":1,\"offset\":1}]",
-        ),
-        shown(records, "[]"),
-    ];
-    is_session(&rt, rt.alloc(), &exchanges, 0)
-}
+const IN_TURN: [Exchange<'static>; 8] = [
+    Exchange {
+        line: PRODUCE,
+        body: "{\"records\":[{\"value\":\"S2Fma2E=\",\"partition\":0},{\"value\":\"S2Fma2E=\",\"partition\":0},{\"value\":\"S2Fma2E=\",\"partition\":1},{\"value\":\"S2Fma2E=\",\"partition\":1}]}",
+        status: OK,
+        media: PLAIN,
+        told: "{\"offsets\":[{\"partition\":0,\"offset\":0,\"error_code\":null,\"error\":null},{\"partition\":0,\"offset\":1,\"error_code\":null,\"error\":null},{\"partition\":1,\"offset\":0,\"error_code\":null,\"error\":null},{\"partition\":1,\"offset\":1,\"error_code\":null,\"error\":null}],\"key_schema_id\":null,\"value_schema_id\":null}",
+    },
+    Exchange {
+        line: "POST /consumers/g",
+        body: EARLIEST,
+        status: OK,
+        media: PLAIN,
+        told: MADE,
+    },
+    Exchange {
+        line: ASSIGN,
+        body: BOTH,
+        status: "204 No Content",
+        media: PLAIN,
+        told: "",
+    },
+    Exchange {
+        line: ONE_BYTE,
+        body: "",
+        status: "200 OK",
+        media: BINARY,
+        told: "[{\"topic\":\"orders\",\"key\":null,\"value\":\"S2Fma2E=\",\"partition\":0,\"offset\":0}]",
+    },
+    Exchange {
+        line: ONE_BYTE,
+        body: "",
+        status: "200 OK",
+        media: BINARY,
+        told: "[{\"topic\":\"orders\",\"key\":null,\"value\":\"S2Fma2E=\",\"partition\":1,\"offset\":0}]",
+    },
+    Exchange {
+        line: ONE_BYTE,
+        body: "",
+        status: "200 OK",
+        media: BINARY,
+        told: "[{\"topic\":\"orders\",\"key\":null,\"value\":\"S2Fma2E=\",\"partition\":0,\"offset\":1}]",
+    },
+    Exchange {
+        line: ONE_BYTE,
+        body: "",
+        status: "200 OK",
+        media: BINARY,
+        told: "[{\"topic\":\"orders\",\"key\":null,\"value\":\"S2Fma2E=\",\"partition\":1,\"offset\":1}]",
+    },
+    Exchange {
+        line: ONE_BYTE,
+        body: "",
+        status: "200 OK",
+        media: BINARY,
+        told: "[]",
+    },
+];
 
 /// Looks at 0, 10, 20 and 30 ms: the last is the first that doesn't come before 25 ms are over.
+const WAITED: [Exchange<'static>; 3] = [
+    Exchange {
+        line: "POST /consumers/g",
+        body: EARLIEST,
+        status: OK,
+        media: PLAIN,
+        told: MADE,
+    },
+    Exchange {
+        line: ASSIGN,
+        body: PARTITION_0,
+        status: "204 No Content",
+        media: PLAIN,
+        told: "",
+    },
+    Exchange {
+        line: WAITING,
+        body: "",
+        status: "200 OK",
+        media: BINARY,
+        told: "[]",
+    },
+];
+
+/// Three values of five bytes are as many as the instance waits for.
+const ENOUGH: [Exchange<'static>; 4] = [
+    Exchange {
+        line: PRODUCE,
+        body: "{\"records\":[{\"value\":\"S2Fma2E=\",\"partition\":0},{\"value\":\"S2Fma2E=\",\"partition\":0},{\"value\":\"S2Fma2E=\",\"partition\":0}]}",
+        status: OK,
+        media: PLAIN,
+        told: "{\"offsets\":[{\"partition\":0,\"offset\":0,\"error_code\":null,\"error\":null},{\"partition\":0,\"offset\":1,\"error_code\":null,\"error\":null},{\"partition\":0,\"offset\":2,\"error_code\":null,\"error\":null}],\"key_schema_id\":null,\"value_schema_id\":null}",
+    },
+    Exchange {
+        line: "POST /consumers/g",
+        body: "{\"name\":\"c1\",\"auto.offset.reset\":\"earliest\",\"fetch.min.bytes\":15}",
+        status: OK,
+        media: PLAIN,
+        told: MADE,
+    },
+    Exchange {
+        line: ASSIGN,
+        body: PARTITION_0,
+        status: "204 No Content",
+        media: PLAIN,
+        told: "",
+    },
+    Exchange {
+        line: WAITING,
+        body: "",
+        status: "200 OK",
+        media: BINARY,
+        told: "[{\"topic\":\"orders\",\"key\":null,\"value\":\"S2Fma2E=\",\"partition\":0,\"offset\":0},{\"topic\":\"orders\",\"key\":null,\"value\":\"S2Fma2E=\",\"partition\":0,\"offset\":1},{\"topic\":\"orders\",\"key\":null,\"value\":\"S2Fma2E=\",\"partition\":0,\"offset\":2}]",
+    },
+];
+
+/// The instance waits for one byte more, and is shown what there is when its time is over.
+const TOO_FEW: [Exchange<'static>; 4] = [
+    Exchange {
+        line: PRODUCE,
+        body: "{\"records\":[{\"value\":\"S2Fma2E=\",\"partition\":0},{\"value\":\"S2Fma2E=\",\"partition\":0},{\"value\":\"S2Fma2E=\",\"partition\":0}]}",
+        status: OK,
+        media: PLAIN,
+        told: "{\"offsets\":[{\"partition\":0,\"offset\":0,\"error_code\":null,\"error\":null},{\"partition\":0,\"offset\":1,\"error_code\":null,\"error\":null},{\"partition\":0,\"offset\":2,\"error_code\":null,\"error\":null}],\"key_schema_id\":null,\"value_schema_id\":null}",
+    },
+    Exchange {
+        line: "POST /consumers/g",
+        body: "{\"name\":\"c1\",\"auto.offset.reset\":\"earliest\",\"fetch.min.bytes\":16}",
+        status: OK,
+        media: PLAIN,
+        told: MADE,
+    },
+    Exchange {
+        line: ASSIGN,
+        body: PARTITION_0,
+        status: "204 No Content",
+        media: PLAIN,
+        told: "",
+    },
+    Exchange {
+        line: WAITING,
+        body: "",
+        status: "200 OK",
+        media: BINARY,
+        told: "[{\"topic\":\"orders\",\"key\":null,\"value\":\"S2Fma2E=\",\"partition\":0,\"offset\":0},{\"topic\":\"orders\",\"key\":null,\"value\":\"S2Fma2E=\",\"partition\":0,\"offset\":1},{\"topic\":\"orders\",\"key\":null,\"value\":\"S2Fma2E=\",\"partition\":0,\"offset\":2}]",
+    },
+];
+
+const SESSIONS: [Session<'static>; 8] = [
+    (
+        "produces are answered, and store nothing where they are refused",
+        &PRODUCES,
+        "0 at 0\n",
+    ),
+    ("instances are made, named and deleted", &NAMED, "0 at 0\n"),
+    (
+        "rows are read one by one within max_bytes",
+        &ONE_BY_ONE,
+        "0 at 0\n",
+    ),
+    (
+        "rows of two partitions stand in one reply",
+        &ALL_AT_ONCE,
+        "0 at 0\n",
+    ),
+    ("partitions take turns", &IN_TURN, "0 at 0\n"),
+    (
+        "an empty topic is looked at four times",
+        &WAITED,
+        "0 at 30\n",
+    ),
+    (
+        "a look that finds enough bytes doesn't wait",
+        &ENOUGH,
+        "0 at 0\n",
+    ),
+    ("a look that finds too few waits", &TOO_FEW, "0 at 30\n"),
+];
+
+fn push_request(alloc: Global, text: &mut String, one: &Exchange<'_>) -> Result<(), Fail> {
+    let (line, body) = (one.line, one.body);
+    let size = body.len();
+    let request = format!(in alloc;
+        "{line} HTTP/1.1\r\nHost: p\r\nContent-Type: {BINARY}\r\nContent-Length: {size}\r\n\r\n{body}"
+    )?;
+    text.push_str(request.as_str())?;
+    Ok(())
+}
+
+fn push_response(alloc: Global, text: &mut String, one: &Exchange<'_>) -> Result<(), Fail> {
+    let (status, media, told) = (one.status, one.media, one.told);
+    let size = told.len();
+    if size == 0 {
+        text.push_str("HTTP/1.1 204 No Content\r\n\r\n")?;
+        return Ok(());
+    }
+    let response = format!(in alloc;
+        "HTTP/1.1 {status}\r\nContent-Type: {media}\r\nContent-Length: {size}\r\n\r\n{told}"
+    )?;
+    text.push_str(response.as_str())?;
+    Ok(())
+}
+
+fn requests_of(alloc: Global, exchanges: &[Exchange<'_>]) -> Result<String, Fail> {
+    let mut text = String::new(alloc);
+    for one in exchanges {
+        push_request(alloc, &mut text, one)?;
+    }
+    Ok(text)
+}
+
+/// The responses behind this line.
+fn responses_of(alloc: Global, ending: &str, exchanges: &[Exchange<'_>]) -> Result<String, Fail> {
+    let mut text = String::from_str(alloc, ending)?;
+    for one in exchanges {
+        push_response(alloc, &mut text, one)?;
+    }
+    Ok(text)
+}
+
+fn are_answered_so(rt: &impl Abort, alloc: Global, sessions: &[Session<'_>]) -> Result<(), Fail> {
+    for (name, exchanges, ending) in sessions {
+        let input = requests_of(alloc, exchanges)?;
+        let wanted = responses_of(alloc, ending, exchanges)?;
+        let told = story(alloc, &WHOLE, input.as_bytes())?;
+        assert_eq!(rt; told.as_str(), wanted.as_str(), "{name}");
+    }
+    Ok(())
+}
+
 #[test]
-fn an_empty_topic_is_looked_at_four_times(rt: HostRuntime) -> Result<(), Fail> {
-    let exchanges = [
-        told("POST /consumers/g", EARLIEST, "200 OK", MADE),
-        told("POST /consumers/g/instances/c1/assignments", FIRST, "", ""),
-        shown("GET /consumers/g/instances/c1/records?timeout=25", "[]"),
-    ];
-    is_session(&rt, rt.alloc(), &exchanges, 30)
+fn each_session_is_answered_as_the_reference_says(rt: HostRuntime) -> Result<(), Fail> {
+    are_answered_so(&rt, rt.alloc(), &SESSIONS)
 }
 
 /// The broker refuses the first produce, which is the call behind its metadata, by code 6: it is
 /// retriable, and nothing is stored.
-#[test]
-fn a_produce_that_the_broker_refuses_stores_nothing(rt: HostRuntime) -> Result<(), Fail> {
-    let alloc = rt.alloc();
-    let one = "{\"records\":[{\"value\":\"S2Fma2E=\",\"partition\":0}]}";
-    let first =
-        "{\"offsets\":[{\"partition\":0,\"offset\":0,\"error_code\":null,\"error\":null}],\"key_schema_id\":null,\"value_schema_id\":null}";
-    let exchanges = [
-        told(
-            "POST /topics/orders",
-            one,
-            "500 Internal Server Error",
-            "{\"error_code\":50003,\"message\":\"Kafka retriable error: broker code 6.\"}",
-        ),
-        told("POST /topics/orders", one, "200 OK", first),
-    ];
-    let mut input = String::from_str(alloc, "")?;
-    let mut output = String::from_str(alloc, "")?;
-    for one in &exchanges {
-        push_request(alloc, &mut input, one.line, one.body)?;
-        push_response(alloc, &mut output, one)?;
-    }
+const REFUSED: [Exchange<'static>; 2] = [
+    Exchange {
+        line: PRODUCE,
+        body: "{\"records\":[{\"value\":\"S2Fma2E=\",\"partition\":0}]}",
+        status: "500 Internal Server Error",
+        media: PLAIN,
+        told: "{\"error_code\":50003,\"message\":\"Kafka retriable error: broker code 6.\"}",
+    },
+    Exchange {
+        line: PRODUCE,
+        body: "{\"records\":[{\"value\":\"S2Fma2E=\",\"partition\":0}]}",
+        status: OK,
+        media: PLAIN,
+        told: "{\"offsets\":[{\"partition\":0,\"offset\":0,\"error_code\":null,\"error\":null}],\"key_schema_id\":null,\"value_schema_id\":null}",
+    },
+];
+
+fn refusing_link(alloc: Global) -> Result<MemLink, Fail> {
     let plans = [(Text::from_str(alloc, "orders")?, 2)];
     let mut link = MemLink::new(alloc, &plans)?;
     let mut fails = Items::new(alloc);
@@ -281,16 +544,29 @@ fn a_produce_that_the_broker_refuses_stores_nothing(rt: HostRuntime) -> Result<(
         code: 6,
     })?;
     link.script(fails, Items::new(alloc));
-    let mut desk = AloneDesk::new(alloc, link, Text::from_str(alloc, "localhost:8082")?);
+    Ok(link)
+}
+
+/// Serves this input over the link that refuses, and tells what was written.
+fn served(alloc: Global, input: &str) -> Result<String, Fail> {
+    let link = refusing_link(alloc)?;
+    let advertise = Text::from_str(alloc, "localhost:8082")?;
     let bytes = Vec::from_slice(alloc, input.as_bytes())?;
-    let mut source = MemSource::new(bytes, usize::MAX, Vec::new(alloc));
-    let mut sink = MemSink::new(alloc, usize::MAX, Vec::new(alloc));
+    let mut desk = AloneDesk::new(alloc, link, advertise);
+    let mut source = MemSource::new(bytes, 1_000_000, Vec::new(alloc));
+    let mut sink = MemSink::new(alloc, 1_000_000, Vec::new(alloc));
     let mut clock = MemClock::new(0, Vec::new(alloc));
-    let served = serve_stream(alloc, &mut source, &mut sink, &mut desk, &mut clock);
-    assert!(rt; served.is_ok());
-    assert_eq!(rt;
-        str::from_utf8(sink.written()).unwrap_or("?"),
-        output.as_str()
-    );
+    match serve_stream(alloc, &mut source, &mut sink, &mut desk, &mut clock) {
+        Ok(()) => Ok(String::from_str(alloc, text(sink.written()))?),
+        Err(no) => Ok(format!(in alloc; "{no:?}")?),
+    }
+}
+
+#[test]
+fn a_produce_that_the_broker_refuses_stores_nothing(rt: HostRuntime) -> Result<(), Fail> {
+    let input = requests_of(rt.alloc(), &REFUSED)?;
+    let wanted = responses_of(rt.alloc(), "", &REFUSED)?;
+    let told = served(rt.alloc(), input.as_str())?;
+    assert_eq!(rt; told.as_str(), wanted.as_str());
     Ok(())
 }

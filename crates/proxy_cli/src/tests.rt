@@ -1,45 +1,101 @@
+//! Sessions in memory over two partitions of `orders`: what is written, and with which status, line
+//! on standard error and moment each ends. The expected texts are written by hand after docs/API.md.
+
 use crate::run;
-use gate_io::{MemClock, MemSink, MemSource};
+use gate_io::{Clock, MemClock, MemSink, MemSource};
 use std::alloc::Global;
 use std::process::Abort;
 use std::test::Fail;
 
-/// One session in memory: its words, its input, and how source and sink behave.
+/// The words of a session, and how its source and its sink behave.
 #[derive(Clone, Copy)]
-struct Case<'a> {
+pub(crate) struct Streams<'a> {
     words: &'a [&'a str],
-    input: &'a [u8],
     read_piece: usize,
     read_faults: &'a [u64],
     write_piece: usize,
     write_faults: &'a [u64],
 }
 
-/// A session over two partitions of `orders` whose source and sink take all at once.
-fn plain(input: &[u8]) -> Case<'_> {
-    Case {
-        words: &["session", "orders:2"],
-        input,
-        read_piece: usize::MAX,
-        read_faults: &[],
-        write_piece: usize::MAX,
-        write_faults: &[],
-    }
+const WORDS: [&str; 2] = ["session", "orders:2"];
+
+/// Nothing fails, and all is taken at once.
+pub(crate) const WHOLE: Streams<'static> = Streams {
+    words: &WORDS,
+    read_piece: 1_000_000,
+    read_faults: &[],
+    write_piece: 1_000_000,
+    write_faults: &[],
+};
+
+/// A session by its requests, all but the last `left` bytes of them, and how it ends: its status, moment
+/// and line, and behind them the first `written` bytes of the responses.
+#[derive(Clone, Copy)]
+struct Row<'a> {
+    name: &'a str,
+    streams: Streams<'a>,
+    requests: &'a [&'a str],
+    left: usize,
+    ending: &'a str,
+    responses: &'a [&'a str],
+    written: usize,
 }
 
-fn ran(alloc: Global, case: &Case<'_>) -> Result<(u8, MemSink, MemSink), Fail> {
-    let mut words = Vec::new(alloc);
-    for word in case.words {
-        words.push(String::from_str(alloc, word)?)?;
+fn words_of(alloc: Global, words: &[&str]) -> Result<Vec<String>, Fail> {
+    let mut texts = Vec::new(alloc);
+    for word in words {
+        texts.push(String::from_str(alloc, word)?)?;
     }
-    let input = Vec::from_slice(alloc, case.input)?;
-    let read_faults = Vec::from_slice(alloc, case.read_faults)?;
-    let mut source = MemSource::new(input, case.read_piece, read_faults);
-    let write_faults = Vec::from_slice(alloc, case.write_faults)?;
-    let mut sink = MemSink::new(alloc, case.write_piece, write_faults);
-    let mut err = MemSink::new(alloc, usize::MAX, Vec::new(alloc));
+    Ok(texts)
+}
+
+fn source_of(alloc: Global, streams: &Streams<'_>, input: &[u8]) -> Result<MemSource, Fail> {
+    let faults = Vec::from_slice(alloc, streams.read_faults)?;
+    let bytes = Vec::from_slice(alloc, input)?;
+    Ok(MemSource::new(bytes, streams.read_piece, faults))
+}
+
+fn sink_of(alloc: Global, streams: &Streams<'_>) -> Result<MemSink, Fail> {
+    let faults = Vec::from_slice(alloc, streams.write_faults)?;
+    Ok(MemSink::new(alloc, streams.write_piece, faults))
+}
+
+fn status_of(
+    alloc: Global,
+    words: &[String],
+    source: &mut MemSource,
+    sink: &mut MemSink,
+    err: &mut MemSink,
+    clock: &mut MemClock,
+) -> u8 {
+    run(alloc, words, source, sink, err, clock)
+}
+
+pub(crate) fn text(bytes: &[u8]) -> &str {
+    str::from_utf8(bytes).unwrap_or("?")
+}
+
+/// "STATUS at MOMENT", a line end, the line on standard error, and what was written.
+fn told(
+    alloc: Global,
+    status: u8,
+    moment: u64,
+    err: &MemSink,
+    sink: &MemSink,
+) -> Result<String, Fail> {
+    let line = text(err.written());
+    let output = text(sink.written());
+    Ok(format!(in alloc; "{status} at {moment}\n{line}{output}")?)
+}
+
+/// Runs a session over this input from moment 0 on, and tells how it ended.
+pub(crate) fn story(alloc: Global, streams: &Streams<'_>, input: &[u8]) -> Result<String, Fail> {
+    let words = words_of(alloc, streams.words)?;
+    let mut source = source_of(alloc, streams, input)?;
+    let mut sink = sink_of(alloc, streams)?;
+    let mut err = MemSink::new(alloc, 1_000_000, Vec::new(alloc));
     let mut clock = MemClock::new(0, Vec::new(alloc));
-    let status = run(
+    let status = status_of(
         alloc,
         words.as_slice(),
         &mut source,
@@ -47,24 +103,14 @@ fn ran(alloc: Global, case: &Case<'_>) -> Result<(u8, MemSink, MemSink), Fail> {
         &mut err,
         &mut clock,
     );
-    Ok((status, sink, err))
+    told(alloc, status, clock.now_ms(), &err, &sink)
 }
 
-fn is_run(
-    rt: &impl Abort,
-    alloc: Global,
-    case: &Case<'_>,
-    status: u8,
-    output: &[u8],
-) -> Result<(), Fail> {
-    let (ended, sink, _err) = ran(alloc, case)?;
-    assert_eq!(rt; ended, status);
-    assert_eq!(rt; text(sink.written()), text(output));
+fn push_all(text: &mut String, parts: &[&str]) -> Result<(), Fail> {
+    for part in parts {
+        text.push_str(part)?;
+    }
     Ok(())
-}
-
-fn text(bytes: &[u8]) -> &str {
-    str::from_utf8(bytes).unwrap_or("?")
 }
 
 /// The first bytes, or all where there are fewer.
@@ -72,253 +118,220 @@ fn front(bytes: &[u8], count: usize) -> &[u8] {
     &bytes[..bytes.len().min(count)]
 }
 
-/// A produce of this body to this topic.
-fn produce(alloc: Global, topic: &str, body: &str) -> Result<String, Fail> {
-    let size = body.len();
-    Ok(format!(in alloc;
-        "POST /topics/{topic} HTTP/1.1\r\nHost: p\r\nContent-Type: application/vnd.kafka.binary.v2+json\r\nContent-Length: {size}\r\n\r\n{body}"
-    )?)
+fn told_of(alloc: Global, row: &Row<'_>) -> Result<String, Fail> {
+    let mut input = String::new(alloc);
+    push_all(&mut input, row.requests)?;
+    let kept = input.len().saturating_sub(row.left);
+    story(alloc, &row.streams, front(input.as_bytes(), kept))
 }
 
-/// A response with this status line and body.
-fn response(alloc: Global, status: &str, body: &str) -> Result<String, Fail> {
-    let size = body.len();
-    Ok(format!(in alloc;
-        "HTTP/1.1 {status}\r\nContent-Type: application/vnd.kafka.v2+json\r\nContent-Length: {size}\r\n\r\n{body}"
-    )?)
+fn wanted_of(alloc: Global, row: &Row<'_>) -> Result<String, Fail> {
+    let mut output = String::new(alloc);
+    push_all(&mut output, row.responses)?;
+    let mut wanted = String::from_str(alloc, row.ending)?;
+    wanted.push_str(text(front(output.as_bytes(), row.written)))?;
+    Ok(wanted)
 }
 
-const ONE: &str = "{\"records\":[{\"value\":\"S2Fma2E=\",\"partition\":0}]}";
+fn ends_so(rt: &impl Abort, alloc: Global, row: &Row<'_>) -> Result<(), Fail> {
+    let told = told_of(alloc, row)?;
+    let wanted = wanted_of(alloc, row)?;
+    let name = row.name;
+    assert_eq!(rt; told.as_str(), wanted.as_str(), "{name}");
+    Ok(())
+}
+
+const ONE: &str =
+    "POST /topics/orders HTTP/1.1\r\nHost: p\r\nContent-Type: application/vnd.kafka.binary.v2+json\r\nContent-Length: 48\r\n\r\n{\"records\":[{\"value\":\"S2Fma2E=\",\"partition\":0}]}";
 
 const FIRST: &str =
-    "{\"offsets\":[{\"partition\":0,\"offset\":0,\"error_code\":null,\"error\":null}],\"key_schema_id\":null,\"value_schema_id\":null}";
+    "HTTP/1.1 200 OK\r\nContent-Type: application/vnd.kafka.v2+json\r\nContent-Length: 115\r\n\r\n{\"offsets\":[{\"partition\":0,\"offset\":0,\"error_code\":null,\"error\":null}],\"key_schema_id\":null,\"value_schema_id\":null}";
 
 const SECOND: &str =
-    "{\"offsets\":[{\"partition\":0,\"offset\":1,\"error_code\":null,\"error\":null}],\"key_schema_id\":null,\"value_schema_id\":null}";
+    "HTTP/1.1 200 OK\r\nContent-Type: application/vnd.kafka.v2+json\r\nContent-Length: 115\r\n\r\n{\"offsets\":[{\"partition\":0,\"offset\":1,\"error_code\":null,\"error\":null}],\"key_schema_id\":null,\"value_schema_id\":null}";
 
-#[test]
-fn a_produce_is_answered_as_the_proxy_answers_it(rt: HostRuntime) -> Result<(), Fail> {
-    let unread = "{\"error_code\":422,\"message\":\"Body does not read.\"}";
-    let cases = [
-        ("orders", ONE, "200 OK", FIRST),
-        (
-            "nope",
-            ONE,
-            "404 Not Found",
-            "{\"error_code\":40401,\"message\":\"Topic not found.\"}",
-        ),
-        (
-            "orders",
-            "{\"records\":[{\"value\":\"S2Fma2E=\",\"partition\":2}]}",
-            "404 Not Found",
-            "{\"error_code\":40402,\"message\":\"Partition not found.\"}",
-        ),
-        (
-            "orders",
-            "{\"records\":[]}",
-            "422 Unprocessable Entity",
-            unread,
-        ),
-        (
-            "orders",
-            "{\"records\":[{\"value\":\"S2F\",\"partition\":0}]}",
-            "422 Unprocessable Entity",
-            unread,
-        ),
-        (
-            "orders",
-            "{\"records\":[{\"value\":\"S2Fma2E=\"}]}",
-            "422 Unprocessable Entity",
-            unread,
-        ),
-        (
-            "orders",
-            "{\"records\":[{\"partition\":1},{\"partition\":0},{\"partition\":1}]}",
-            "200 OK",
-            "{\"offsets\":[{\"partition\":1,\"offset\":0,\"error_code\":null,\"error\":null},{\"partition\":0,\"offset\":0,\"error_code\":null,\"error\":null},{\"partition\":1,\"offset\":1,\"error_code\":null,\"error\":null}],\"key_schema_id\":null,\"value_schema_id\":null}",
-        ),
-    ];
-    for (topic, body, status, told) in cases {
-        let input = produce(rt.alloc(), topic, body)?;
-        let output = response(rt.alloc(), status, told)?;
-        is_run(
-            &rt,
-            rt.alloc(),
-            &plain(input.as_bytes()),
-            0,
-            output.as_bytes(),
-        )?;
-    }
-    Ok(())
-}
+const ELSEWHERE: &str = "GET / HTTP/1.1\r\n\r\n";
 
-#[test]
-fn a_refused_produce_stores_nothing(rt: HostRuntime) -> Result<(), Fail> {
-    let refused = [
-        "{\"records\":[{\"value\":\"S2Fma2E=\",\"partition\":0},{\"partition\":2}]}",
-        "{\"records\":[{\"value\":\"S2Fma2E=\",\"partition\":0},{\"value\":\"S2F\",\"partition\":0}]}",
-    ];
-    for body in refused {
-        let mut input = produce(rt.alloc(), "orders", body)?;
-        input.push_str(produce(rt.alloc(), "orders", ONE)?.as_str())?;
-        let (status, sink, _err) = ran(rt.alloc(), &plain(input.as_bytes()))?;
-        assert_eq!(rt; status, 0);
-        assert!(rt; text(sink.written()).ends_with(FIRST));
-    }
-    Ok(())
-}
+const NOT_FOUND: &str =
+    "HTTP/1.1 404 Not Found\r\nContent-Type: application/vnd.kafka.v2+json\r\nContent-Length: 41\r\n\r\n{\"error_code\":404,\"message\":\"Not found.\"}";
 
-#[test]
-fn an_empty_input_and_one_cut_inside_a_request_have_no_output(rt: HostRuntime) -> Result<(), Fail> {
-    is_run(&rt, rt.alloc(), &plain(b""), 0, b"")?;
-    let whole = produce(rt.alloc(), "orders", ONE)?;
-    let bytes = whole.as_bytes();
-    for left in [1, 47, 48, 49, bytes.len().saturating_sub(1)] {
-        let end = bytes.len().saturating_sub(left);
-        is_run(&rt, rt.alloc(), &plain(&bytes[..end]), 0, b"")?;
-    }
-    Ok(())
-}
+const BAD: &str = "GET / HTTP/1.0\r\n\r\nunread";
 
-#[test]
-fn a_request_cut_by_the_end_stores_nothing_before_it(rt: HostRuntime) -> Result<(), Fail> {
-    let one = produce(rt.alloc(), "orders", ONE)?;
-    let mut input = produce(rt.alloc(), "orders", ONE)?;
-    input.push_str(one.as_str())?;
-    let mut output = response(rt.alloc(), "200 OK", FIRST)?;
-    let end = input.len().saturating_sub(1);
-    let cut = &input.as_bytes()[..end];
-    is_run(&rt, rt.alloc(), &plain(cut), 0, output.as_bytes())?;
-    output.push_str(response(rt.alloc(), "200 OK", SECOND)?.as_str())?;
-    is_run(
-        &rt,
-        rt.alloc(),
-        &plain(input.as_bytes()),
-        0,
-        output.as_bytes(),
-    )
-}
+const BAD_REQUEST: &str =
+    "HTTP/1.1 400 Bad Request\r\nContent-Type: application/vnd.kafka.v2+json\r\nContent-Length: 43\r\nConnection: close\r\n\r\n{\"error_code\":400,\"message\":\"Bad request.\"}";
 
-#[test]
-fn words_that_do_not_read_are_status_2(rt: HostRuntime) -> Result<(), Fail> {
-    let input = produce(rt.alloc(), "orders", ONE)?;
-    let cases: [&[&str]; 4] = [
-        &["session"],
-        &["session", "orders"],
-        &["session", "orders:0"],
-        &[],
-    ];
-    for words in cases {
-        let case = Case {
-            words,
-            ..plain(input.as_bytes())
+/// What is sent, all but its last bytes, and what is answered.
+const CUTS: [(&str, &[&str], usize, &[&str]); 9] = [
+    ("nothing", &[], 0, &[]),
+    ("a byte is left out", &[ONE], 1, &[]),
+    ("all but a byte of the body is left out", &[ONE], 47, &[]),
+    ("the body is left out", &[ONE], 48, &[]),
+    ("the head is cut", &[ONE], 49, &[]),
+    ("one byte", &[ONE], 160, &[]),
+    ("one request", &[ONE], 0, &[FIRST]),
+    ("the second lacks a byte", &[ONE, ONE], 1, &[FIRST]),
+    ("two requests", &[ONE, ONE], 0, &[FIRST, SECOND]),
+];
+
+fn cuts_end_so(
+    rt: &impl Abort,
+    alloc: Global,
+    cases: &[(&str, &[&str], usize, &[&str])],
+) -> Result<(), Fail> {
+    for (name, requests, left, responses) in cases {
+        let row = Row {
+            name,
+            streams: WHOLE,
+            requests,
+            left: *left,
+            ending: "0 at 0\n",
+            responses,
+            written: 1_000_000,
         };
-        is_run(&rt, rt.alloc(), &case, 2, b"")?;
+        ends_so(rt, alloc, &row)?;
     }
     Ok(())
 }
 
 #[test]
-fn a_failed_read_is_status_3_behind_what_was_read(rt: HostRuntime) -> Result<(), Fail> {
-    let input = produce(rt.alloc(), "orders", ONE)?;
-    let output = response(rt.alloc(), "200 OK", FIRST)?;
-    let cases: [(&[u64], &[u8]); 2] = [(&[0], b""), (&[1], output.as_bytes())];
-    for (read_faults, written) in cases {
-        let case = Case {
+fn a_request_that_the_end_cuts_off_has_no_answer_and_no_effect(
+    rt: HostRuntime,
+) -> Result<(), Fail> {
+    cuts_end_so(&rt, rt.alloc(), &CUTS)
+}
+
+/// The calls of the source that fail, how much the sink takes at once, the calls of the sink that
+/// fail, how the session of one produce ends, and how many bytes of its response were written.
+const FAULTS: [(&[u64], usize, &[u64], &str, usize); 7] = [
+    (&[], 1_000_000, &[], "0 at 0\n", 1_000_000),
+    (&[0], 1_000_000, &[], "3 at 0\nread fault\n", 0),
+    (&[1], 1_000_000, &[], "3 at 0\nread fault\n", 1_000_000),
+    (&[], 1, &[0], "4 at 0\nwrite fault\n", 0),
+    (&[], 1, &[1], "4 at 0\nwrite fault\n", 1),
+    (&[], 1, &[7], "4 at 0\nwrite fault\n", 7),
+    (&[], 0, &[], "4 at 0\nwrite fault\n", 0),
+];
+
+fn faults_end_so(
+    rt: &impl Abort,
+    alloc: Global,
+    cases: &[(&[u64], usize, &[u64], &str, usize)],
+) -> Result<(), Fail> {
+    for (read_faults, write_piece, write_faults, ending, written) in cases {
+        let streams = Streams {
+            words: &WORDS,
+            read_piece: 1_000_000,
             read_faults,
-            ..plain(input.as_bytes())
-        };
-        is_run(&rt, rt.alloc(), &case, 3, written)?;
-    }
-    Ok(())
-}
-
-#[test]
-fn a_failed_write_is_status_4_behind_what_was_written(rt: HostRuntime) -> Result<(), Fail> {
-    let input = produce(rt.alloc(), "orders", ONE)?;
-    let output = response(rt.alloc(), "200 OK", FIRST)?;
-    let cases: [(usize, &[u64], &[u8]); 4] = [
-        (1, &[0], b""),
-        (1, &[1], front(output.as_bytes(), 1)),
-        (1, &[7], front(output.as_bytes(), 7)),
-        (0, &[], b""),
-    ];
-    for (write_piece, write_faults, written) in cases {
-        let case = Case {
-            write_piece,
+            write_piece: *write_piece,
             write_faults,
-            ..plain(input.as_bytes())
         };
-        is_run(&rt, rt.alloc(), &case, 4, written)?;
+        let row = Row {
+            name: ending,
+            streams,
+            requests: &[ONE],
+            left: 0,
+            ending,
+            responses: &[FIRST],
+            written: *written,
+        };
+        ends_so(rt, alloc, &row)?;
     }
     Ok(())
 }
 
 #[test]
-fn a_status_comes_with_its_line(rt: HostRuntime) -> Result<(), Fail> {
-    let none: &[u64] = &[];
-    let first: &[u64] = &[0];
-    let input = produce(rt.alloc(), "orders", ONE)?;
-    let cases: [(&[&str], &[u64], &[u64], &str); 4] = [
-        (&["session", "orders:2"], none, none, ""),
-        (&["session", "orders:2"], first, none, "read fault\n"),
-        (&["session", "orders:2"], none, first, "write fault\n"),
-        (
-            &["serve"],
-            none,
-            none,
-            "usage: restgate session TOPIC:PARTS [TOPIC:PARTS ..]\n",
-        ),
-    ];
-    for (words, read_faults, write_faults, line) in cases {
-        let case = Case {
+fn a_failed_read_or_write_ends_behind_what_was_written(rt: HostRuntime) -> Result<(), Fail> {
+    faults_end_so(&rt, rt.alloc(), &FAULTS)
+}
+
+const UNREAD: [(&str, &[&str]); 5] = [
+    ("no words", &[]),
+    ("another command", &["serve"]),
+    ("no topic", &["session"]),
+    ("no partitions", &["session", "orders"]),
+    ("no partition", &["session", "orders:0"]),
+];
+
+fn are_not_read(rt: &impl Abort, alloc: Global, cases: &[(&str, &[&str])]) -> Result<(), Fail> {
+    for (name, words) in cases {
+        let streams = Streams {
             words,
-            read_faults,
-            write_faults,
-            ..plain(input.as_bytes())
+            read_piece: 1_000_000,
+            read_faults: &[],
+            write_piece: 1_000_000,
+            write_faults: &[],
         };
-        let (_status, _sink, err) = ran(rt.alloc(), &case)?;
-        assert_eq!(rt; text(err.written()), line);
+        let row = Row {
+            name,
+            streams,
+            requests: &[ONE],
+            left: 0,
+            ending: "2 at 0\nusage: restgate session TOPIC:PARTS [TOPIC:PARTS ..]\n",
+            responses: &[],
+            written: 0,
+        };
+        ends_so(rt, alloc, &row)?;
+    }
+    Ok(())
+}
+
+#[test]
+fn words_that_ask_for_no_session_are_status_2(rt: HostRuntime) -> Result<(), Fail> {
+    are_not_read(&rt, rt.alloc(), &UNREAD)
+}
+
+const PIECES: [usize; 4] = [1, 3, 100, 4096];
+
+fn pieces_end_so(rt: &impl Abort, alloc: Global, pieces: &[usize]) -> Result<(), Fail> {
+    for piece in pieces {
+        let streams = Streams {
+            words: &WORDS,
+            read_piece: *piece,
+            read_faults: &[],
+            write_piece: 1_000_000,
+            write_faults: &[],
+        };
+        let row = Row {
+            name: "pieces",
+            streams,
+            requests: &[ONE, ELSEWHERE, ONE, BAD],
+            left: 0,
+            ending: "0 at 0\n",
+            responses: &[FIRST, NOT_FOUND, SECOND, BAD_REQUEST],
+            written: 1_000_000,
+        };
+        ends_so(rt, alloc, &row)?;
     }
     Ok(())
 }
 
 #[test]
 fn requests_come_in_any_pieces(rt: HostRuntime) -> Result<(), Fail> {
-    let mut input = produce(rt.alloc(), "orders", ONE)?;
-    input.push_str("GET / HTTP/1.1\r\n\r\n")?;
-    input.push_str(produce(rt.alloc(), "orders", ONE)?.as_str())?;
-    input.push_str("GET / HTTP/1.0\r\n\r\nunread")?;
-    let mut output = response(rt.alloc(), "200 OK", FIRST)?;
-    let other = "{\"error_code\":404,\"message\":\"Not found.\"}";
-    output.push_str(response(rt.alloc(), "404 Not Found", other)?.as_str())?;
-    output.push_str(response(rt.alloc(), "200 OK", SECOND)?.as_str())?;
-    output.push_str(
-        "HTTP/1.1 400 Bad Request\r\nContent-Type: application/vnd.kafka.v2+json\r\nContent-Length: 43\r\nConnection: close\r\n\r\n{\"error_code\":400,\"message\":\"Bad request.\"}",
-    )?;
-    for read_piece in [1, 3, 100, 4096] {
-        let case = Case {
-            read_piece,
-            ..plain(input.as_bytes())
-        };
-        is_run(&rt, rt.alloc(), &case, 0, output.as_bytes())?;
+    pieces_end_so(&rt, rt.alloc(), &PIECES)
+}
+
+fn many(alloc: Global, one: &str, count: u32) -> Result<String, Fail> {
+    let mut text = String::with_capacity(alloc, 1_900_000)?;
+    for _ in 0..count {
+        text.push_str(one)?;
     }
-    Ok(())
+    Ok(text)
+}
+
+/// The last response has a `Connection: close` of 19 bytes more.
+fn is_closed(rt: &impl Abort, told: &str) {
+    let open = NOT_FOUND.len();
+    let end =
+        "Content-Length: 41\r\nConnection: close\r\n\r\n{\"error_code\":404,\"message\":\"Not found.\"}";
+    assert!(rt; told.starts_with("0 at 0\nHTTP/1.1 404 Not Found\r\n"));
+    assert!(rt; told.ends_with(end));
+    assert_eq!(rt; told.len(), 7 + 100_000 * open + 19);
 }
 
 #[test]
 fn the_last_request_that_is_allowed_closes(rt: HostRuntime) -> Result<(), Fail> {
-    let one = b"GET / HTTP/1.1\r\n\r\n";
-    let mut input = Vec::with_capacity(rt.alloc(), 1_900_000)?;
-    for _ in 0..100_002 {
-        input.extend_from_slice(one)?;
-    }
-    let (status, sink, _err) = ran(rt.alloc(), &plain(input.as_slice()))?;
-    let open = 132;
-    assert_eq!(rt; status, 0);
-    assert_eq!(rt; sink.written().len(), 100_000 * open + 19);
-    let end =
-        "Content-Length: 41\r\nConnection: close\r\n\r\n{\"error_code\":404,\"message\":\"Not found.\"}";
-    assert!(rt; text(sink.written()).ends_with(end));
+    let input = many(rt.alloc(), ELSEWHERE, 100_002)?;
+    let told = story(rt.alloc(), &WHOLE, input.as_bytes())?;
+    is_closed(&rt, told.as_str());
     Ok(())
 }
