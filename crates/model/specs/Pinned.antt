@@ -1,13 +1,13 @@
 -- What the model's words fix, each by a law of its own: replies of the Confluent REST Proxy API v2, rebalances and fetches of Apache Kafka's consumer.
-use Rattle.std.specs.Prelude.{ℕ, ℤ, pos, ◌<ℤ◌, ◌≡◌, ◌≢◌, ◌<◌, ◌≤◌, ◌+◌, ◌⊎◌, ◌↔◌, ◌++◌, true, false, List, [], ◌∷◌, map, length, sum_by, AllPairs, Contains, IsTrue, Option, Some, None}
+use Rattle.std.specs.Prelude.{ℕ, ℤ, pos, ◌<ℤ◌, ◌≡◌, ◌≢◌, ◌<◌, ◌≤◌, ◌+◌, ◌⊎◌, ◌↔◌, ◌++◌, Bool, true, false, List, [], ◌∷◌, map, length, sum_by, AllPairs, Contains, IsPermutation, IsTrue, Option, Some, None}
 use mathlib.Core.List.{IsPrefix}
 use Rattle.model.specs.Log.{TopicPart, Log, part_at}
 use Rattle.model.specs.Walk.{Place, Lot, Item, rows_at}
 use Rattle.model.specs.World.{Edge, Key, Settings, Format, Consumer, World, touched, position_in}
-use Rattle.model.specs.World.Mode.{ByTopics}
-use Rattle.model.specs.Entry.{Event, PartTold, Reply, Turn, Entry, Call}
+use Rattle.model.specs.World.Mode.{Assigned, ByTopics}
+use Rattle.model.specs.Entry.{Batch, Event, PartTold, Reply, Turn, Entry, Call}
 use Rattle.model.specs.Entry.Act.{Assign, Assignments, Create, Commit, Delete, Fixed, Seek, SeekEdge, Subscribe, Subscription, Unsubscribe, Records}
-use Rattle.model.specs.Entry.Call.{Of}
+use Rattle.model.specs.Entry.Call.{Of, Produce}
 use Rattle.model.specs.Entry.Event.{Committed, Rebalanced, Reset, Looked}
 use Rattle.model.specs.Entry.Question.{Brokers}
 use Rattle.model.specs.Entry.Reply.{Done, Broker, Nodes, Refused, Shown, Told, Want}
@@ -19,7 +19,8 @@ use Rattle.model.specs.Causes.{IsCaused, IsRebalanced, is_commit, is_records, Ri
 use Rattle.model.specs.Causes.Pumped.{Steady}
 use Rattle.model.specs.Stretch.{changes, is_breaking, is_moving}
 use Rattle.model.specs.Nodes.{Heard, HasNodes}
-use Rattle.model.specs.Buffers.{Fetches, IsBuffered, IsFetched, IsCleared, buffered_at, rows_at_hand}
+use Rattle.model.specs.Buffers.{Fetches, IsBuffered, IsFetched, IsCleared, buffered_at, bytes_at_hand, rows_at_hand}
+use Rattle.model.specs.Sessions.{IsCodeOf}
 
 -- the nodes are told in rising order
 abbrev pub NodesRise : Type 0
@@ -167,3 +168,35 @@ SeeksClear = (c : Consumer) (news : List Place) (after : List Lot) (place : Plac
 -- a Subscribe to the list in force may keep its rows
 abbrev pub EqualSubscribesKeep : Type 0
 EqualSubscribesKeep = (c : Consumer) (names : List (List ℕ)) (after : List Lot) → is_in_force c names ≡ true → IsCleared c (Subscribe names) after
+
+-- An Assign keeps no row of a partition that it leaves out or that had no position, a SeekEdge none of its partitions; an Unsubscribe keeps no row at all, and a Subscribe to another list none.
+abbrev pub MovesClear : Type 0
+MovesClear =
+    (c : Consumer) (ats : List TopicPart) (edge : Edge) (names : List (List ℕ)) (after : List Lot) (at : TopicPart)
+    → (IsCleared c (Assign ats) after → (Contains ats at → ⊥) → buffered_at at after ≡ [])
+    × (IsCleared c (Assign ats) after → position_in c.assignment at ≡ None → buffered_at at after ≡ [])
+    × (IsCleared c (SeekEdge edge ats) after → Contains ats at → buffered_at at after ≡ [])
+    × (IsCleared c Unsubscribe after → rows_at_hand after ≡ 0)
+    × (IsCleared c (Subscribe names) after → is_in_force c names ≡ false → rows_at_hand after ≡ 0)
+
+-- Where nothing is at hand of one partition, it is asked for once, with 1,048,576 bytes of room; where enough is at hand, an assigned consumer sends nothing.
+abbrev pub FetchesAreAsked : Type 0
+FetchesAreAsked =
+    (before after : List Lot) (f g : Fetches) (due : Bool) (c : Consumer) (shown : List Item) (place : Place) → IsFetched before after f g due c [] shown
+    → (c.assignment ≡ place ∷ [] → rows_at_hand before ≡ 0 → (g.asks ≡ f.asks + 1) × (g.room ≡ f.room + 1048576))
+    × (c.mode ≡ Assigned → due ≡ false → 0 < rows_at_hand before → (let s = c.settings in s.min_bytes) ≤ bytes_at_hand before → g.sent ≡ f.sent)
+
+-- all nodes that were heard of are told, each as often
+abbrev pub NodesAreThoseHeard : Type 0
+NodesAreThoseHeard = (heard : Heard) (nodes : List ℤ) → HasNodes heard (Some (Nodes nodes)) → IsPermutation heard.nodes nodes
+
+-- In a session no code answers a produce, a call that finds no consumer, or one that neither commits nor reads.
+abbrev pub OtherCallsHaveNoCode : Type 0
+OtherCallsHaveNoCode =
+    (log : Log) (grouped : List ℕ → Bool) (found : Option Consumer) (c : Consumer) (call : Option Call) (topic : List ℕ) (batch : Batch) (key : Key) (ats : List TopicPart) (news : List Place) (code : ℤ)
+    → (IsCodeOf log grouped None call code → ⊥)
+    × (IsCodeOf log grouped (Some c) (Some (Produce topic batch)) code → ⊥)
+    × (IsCodeOf log grouped (Some c) (Some (Of key Delete)) code → ⊥)
+    × (IsCodeOf log grouped (Some c) (Some (Of key (Assign ats))) code → ⊥)
+    × (IsCodeOf log grouped (Some c) (Some (Of key (Seek news))) code → ⊥)
+    × (IsCodeOf log grouped (Some c) (Some (Of key (Fixed ats))) code → ⊥)

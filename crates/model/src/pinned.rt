@@ -7,14 +7,18 @@ ghost use Rattle.model.specs.Pinned.{
   EqualSubscribesKeep,
   EventsAreOwed,
   FetchedRowsStay,
+  FetchesAreAsked,
   LateSharesAreFixed,
   LiveNamesAreTaken,
   LooksByTopicsOwe,
   LooksByTopicsPump,
   LostAssignmentsAreTold,
+  MovesClear,
   NodesAreHeard,
+  NodesAreThoseHeard,
   NodesRise,
   NothingElseBreaks,
+  OtherCallsHaveNoCode,
   OtherCodesAreAnswered,
   OtherFormatsAreUses,
   PartialCommitsOwe,
@@ -31,6 +35,7 @@ ghost use Rattle.model.specs.Sessions.{QuietSessionsBlameNobody, RefusedBatchesA
 pub fn calls_are_pinned()
     ensures nodes { NodesRise }
     ensures heard { NodesAreHeard }
+    ensures all { NodesAreThoseHeard }
     ensures names { LiveNamesAreTaken }
     ensures formats { OtherFormatsAreUses }
     ensures unsaved { RefusedCommitsSaveNothing }
@@ -64,10 +69,13 @@ pub fn buffers_are_pinned()
     ensures order { BufferedRowsComeFirst }
     ensures seek { SeeksClear }
     ensures equal { EqualSubscribesKeep }
+    ensures moves { MovesClear }
+    ensures asked { FetchesAreAsked }
 {}
 
 /// What a session over a link of its own never answers.
 pub fn sessions_are_quiet()
     ensures link { QuietSessionsBlameNobody }
     ensures large { RefusedBatchesAreLarge }
+    ensures codes { OtherCallsHaveNoCode }
 {}
