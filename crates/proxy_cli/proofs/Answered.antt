@@ -1,10 +1,9 @@
 -- Requests are answered by one run of the model, one request after another.
-use Rattle.std.proofs.Common.{◌≡◌, ℕ, ◌+◌, List, [], ◌∷◌, ◌++◌, length, refl, ap, sym, subst, ◌∙◌, arith, append_assoc, append-nil, inl, inr}
+use Rattle.std.proofs.Common.{◌≡◌, ℕ, List, [], ◌∷◌, ◌++◌, length, refl, ap, sym, subst, ◌∙◌, arith, append_assoc, append-nil, inl, inr}
 use Rattle.std.specs.Prelude.{⊤}
 use Rattle.gate_io.specs.Clocks.{Hand}
 use Rattle.model.specs.Entry.{Call, Entry}
 use Rattle.model.specs.Legal.{Run}
-use Rattle.model.specs.Stretch.{Cut, StretchLaw}
 use Rattle.model.proofs.Stretches.{histories_cut, stretch_law}
 use Rattle.model.proofs.Stored.{stored_is_shown}
 use Rattle.model.proofs.Added.{run_adds}
@@ -15,7 +14,7 @@ use Rattle.desk.specs.declared.alone_desk.AloneDesk.{AloneDesk}
 use Rattle.desk.proofs.Looking.{runs_none, runs_on}
 use Rattle.rest_codes.specs.declared.response.Reply.{Reply}
 use Rattle.http_conn.specs.declared.request.Request.{Request}
-use Rattle.proxy_cli.specs.Served.{AnswersAll, AnswersOne, Answering, Exchanges, ExchangesAll, Gateway, gateway_of, GainsWhatIsStored, IsCalled, ShowWhatIsStored}
+use Rattle.proxy_cli.specs.Served.{AnswersAll, AnswersOne, Answering, Exchanges, ExchangesAll, Gateway, gateway_of, IsCalled}
 use Rattle.proxy_cli.proofs.Progress.{GoesOnBy}
 
 served_more : {S E : Type 0} (one : S → S → Request → Reply → List E → Type 0) (s m t : S) (rs : List Request) (ps : List Reply) (es own : List E) (r : Request) (p : Reply) → length ps ≡ length rs

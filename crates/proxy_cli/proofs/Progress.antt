@@ -13,6 +13,9 @@ use Rattle.http_conn.proofs.BeginsLemmas.{begins_cut}
 use Rattle.http_conn.specs.Told.{Comes}
 use Rattle.http_conn.specs.Next.{IsWaiting}
 use Rattle.proxy_cli.specs.Served.{closes, responses}
+use Rattle.proxy_cli.specs.Ended.{TellsEnd}
+use Rattle.proxy_cli.specs.declared.ended.EndWhy.{EndWhy}
+use Rattle.proxy_cli.specs.declared.ended.EndWhy.TheVariants.{Limit as AtTheLimit}
 use Rattle.proxy_cli.specs.Session.{Whole, Lost, Starved, CutOff, SplitsLast}
 use Rattle.proxy_cli.specs.Turn.{ServesOne, EndsAs, EndsHere, CutAt, CutsReply, CutsRefusal}
 use Rattle.proxy_cli.proofs.Wants.{nothing_appended}
@@ -102,40 +105,47 @@ ends_behind n rest Limit lt ends = absurd ends
 ends_behind n rest (CutShort due) lt ends = (lt, ends.0, ends.1)
 ends_behind n rest (BadPlace due r) lt ends = (lt, ends.0, ends.1)
 
-pub progress_end : (answers : Said) (input : List ℕ) (before now next : Option (List ℕ)) (count : ℕ) (held : List ℕ) (left : Option (List ℕ))
-    → count < max_requests → Progress answers input before now count held left → ((all : List ℕ) → Comes held left all → EndsHere all now next)
-    → (written : List ℕ) × Appends before next written × Whole answers input written
-progress_end answers input before now next count held left lt so_far end =
+pub progress_end : (answers : Said) (input : List ℕ) (before now next : Option (List ℕ)) (count : ℕ) (held : List ℕ) (left : Option (List ℕ)) (why : EndWhy)
+    → count < max_requests → Progress answers input before now count held left → ((all : List ℕ) → Comes held left all → EndsHere why all now next)
+    → (written : List ℕ) × Appends before next written × ((whole : Whole answers input written) × TellsEnd (record { requests = count; why = why }) whole.requests whole.ending)
+progress_end answers input before now next count held left why lt so_far end =
     let here = end so_far.rest so_far.comes in (
       responses 0 so_far.requests so_far.replies ++ here.last,
       Appends-trans before now next (responses 0 so_far.requests so_far.replies) here.last so_far.wrote here.wrote,
-      record {
-        requests = so_far.requests;
-        ending = here.ending;
-        stream = record { rest = so_far.rest; begins = so_far.begins; ends = ends_behind (length so_far.requests) so_far.rest here.ending (omega (arith, lt, so_far.counted)) here.ends };
-        replies = so_far.replies;
-        answered = so_far.answered;
-        last = here.last;
-        ends = here.is_last;
-        output = refl;
-      },
+      (
+        record {
+          requests = so_far.requests;
+          ending = here.ending;
+          stream = record { rest = so_far.rest; begins = so_far.begins; ends = ends_behind (length so_far.requests) so_far.rest here.ending (omega (arith, lt, so_far.counted)) here.ends };
+          replies = so_far.replies;
+          answered = so_far.answered;
+          last = here.last;
+          ends = here.is_last;
+          output = refl;
+        },
+        record { count = sym so_far.counted; why = here.is_why },
+      ),
     )
 
 pub progress_limit : (answers : Said) (input : List ℕ) (before now : Option (List ℕ)) (count : ℕ) (held : List ℕ) (left : Option (List ℕ))
-    → Progress answers input before now count held left → count ≡ max_requests → (written : List ℕ) × Appends before now written × Whole answers input written
+    → Progress answers input before now count held left → count ≡ max_requests
+    → (written : List ℕ) × Appends before now written × ((whole : Whole answers input written) × TellsEnd (record { requests = max_requests; why = AtTheLimit }) whole.requests whole.ending)
 progress_limit answers input before now count held left so_far full = (
   responses 0 so_far.requests so_far.replies,
   so_far.wrote,
-  record {
-    requests = so_far.requests;
-    ending = Limit;
-    stream = record { rest = so_far.rest; begins = so_far.begins; ends = so_far.counted ∙ full };
-    replies = so_far.replies;
-    answered = so_far.answered;
-    last = [];
-    ends = refl;
-    output = sym (append-nil (responses 0 so_far.requests so_far.replies));
-  },
+  (
+    record {
+      requests = so_far.requests;
+      ending = Limit;
+      stream = record { rest = so_far.rest; begins = so_far.begins; ends = so_far.counted ∙ full };
+      replies = so_far.replies;
+      answered = so_far.answered;
+      last = [];
+      ends = refl;
+      output = sym (append-nil (responses 0 so_far.requests so_far.replies));
+    },
+    record { count = sym (so_far.counted ∙ full); why = tt },
+  ),
 )
 
 pub progress_starved : (answers : Said) (input : List ℕ) (before now : Option (List ℕ)) (count : ℕ) (held : List ℕ) (left : Option (List ℕ))

@@ -1,15 +1,16 @@
 -- What is said of a session is said in any other words that its requests and replies have.
-use Rattle.std.proofs.Common.{◌≡◌, ℕ, List, Option}
+use Rattle.std.proofs.Common.{ℕ, List, Option}
 use Rattle.rest_codes.specs.declared.response.Reply.{Reply}
 use Rattle.http_conn.specs.declared.request.Request.{Request}
-use Rattle.proxy_cli.specs.Session.{CutOff, Lost, ServesAll, ServesFirst, ServesSome, ServesUntil, Starved, Whole}
+use Rattle.proxy_cli.specs.Session.{EndsSo, ServesAll, ServesFirst, ServesSome, ServesUntil}
+use Rattle.proxy_cli.specs.declared.ended.Ended.{Ended}
 use Rattle.proxy_cli.proofs.Progress.{Said}
 
 module _ (answers answers2 : Said) (so : (qs : List Request) (rs : List Reply) → answers qs rs → answers2 qs rs) where
-  pub all_so : (left held held2 : Option (List ℕ)) → ServesAll answers left held held2 → ServesAll answers2 left held held2
-  all_so left held held2 said = λ input is.
+  pub all_so : (ended : Ended) (left held held2 : Option (List ℕ)) → EndsSo ended answers left held held2 → ServesAll answers2 left held held2
+  all_so ended left held held2 said = λ input is.
       let x = said input is in
-      let w = x.2 in
+      let w = x.2.0 in
       (x.0, x.1, record { requests = w.requests; ending = w.ending; stream = w.stream; replies = w.replies; answered = so w.requests w.replies w.answered; last = w.last; ends = w.ends; output = w.output })
 
   pub some_so : (left left2 held held2 : Option (List ℕ)) → ServesSome answers left left2 held held2 → ServesSome answers2 left left2 held held2

@@ -1,3 +1,4 @@
+pub mod Ended
 pub mod Served
 pub mod Session
 pub mod Status

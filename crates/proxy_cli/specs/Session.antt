@@ -11,6 +11,8 @@ use Rattle.http_conn.specs.Stream.{Ending, Stream, StreamSoFar, Begins, IsBad}
 use Rattle.http_conn.specs.Stream.Ending.{BadPlace}
 use Rattle.model.specs.World.{nobody}
 use Rattle.desk.specs.Stepping.{never}
+use Rattle.proxy_cli.specs.Ended.{TellsEnd}
+use Rattle.proxy_cli.specs.declared.ended.Ended.{Ended}
 use Rattle.proxy_cli.specs.Served.{Answering, Gateway, OrWant, closes, responses}
 use Rattle.proxy_cli.specs.Words.{advertise_of, plans_of, words_of}
 use Rattle.proxy_cli.specs.declared.words.Command.{Command}
@@ -77,6 +79,11 @@ pub record CutOff (answers : List Request → List Reply → Type 0) (input writ
 -- What is said of a session whose source tells its input, into a sink that tells what it holds.
 abbrev pub ServesAll : (answers : List Request → List Reply → Type 0) → Option (List ℕ) → Option (List ℕ) → Option (List ℕ) → Type 0
 ServesAll answers left held held2 = (input : List ℕ) → left ≡ Some input → (written : List ℕ) × Appends held held2 written × Whole answers input written
+
+-- The same, of a call that tells how the session ended.
+abbrev pub EndsSo : Ended → (answers : List Request → List Reply → Type 0) → Option (List ℕ) → Option (List ℕ) → Option (List ℕ) → Type 0
+EndsSo ended answers left held held2 =
+    (input : List ℕ) → left ≡ Some input → (written : List ℕ) × Appends held held2 written × ((whole : Whole answers input written) × TellsEnd ended whole.requests whole.ending)
 
 abbrev pub ServesSome : (answers : List Request → List Reply → Type 0) → Option (List ℕ) → Option (List ℕ) → Option (List ℕ) → Option (List ℕ) → Type 0
 ServesSome answers left left2 held held2 =

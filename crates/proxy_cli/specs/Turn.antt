@@ -7,6 +7,8 @@ use Rattle.http_conn.specs.declared.request.Request.{Request}
 use Rattle.http_conn.specs.Stream.{Ending, IsRequest, IsCut, IsBad}
 use Rattle.http_conn.specs.Stream.Ending.{End, Closed, Limit, CutShort, BadPlace}
 use Rattle.http_conn.specs.Told.{Comes}
+use Rattle.proxy_cli.specs.Ended.{IsWhy}
+use Rattle.proxy_cli.specs.declared.ended.EndWhy.{EndWhy}
 use Rattle.proxy_cli.specs.Served.{OrWant}
 use Rattle.proxy_cli.specs.Session.{IsLast}
 
@@ -28,9 +30,10 @@ EndsAs all Limit = ⊥
 EndsAs all (CutShort due) = (due ≡ false) × IsCut all
 EndsAs all (BadPlace due r) = (due ≡ false) × IsBad all r
 
--- there is no further request
-pub record EndsHere (all : List ℕ) (before now : Option (List ℕ)) : Type 0 where
+-- there is no further request, for this reason
+pub record EndsHere (why : EndWhy) (all : List ℕ) (before now : Option (List ℕ)) : Type 0 where
   pub ending : Ending
+  pub is_why : IsWhy why ending
   pub ends : EndsAs all ending
   pub last : List ℕ
   pub is_last : IsLast ending last

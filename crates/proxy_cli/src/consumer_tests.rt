@@ -20,9 +20,6 @@ struct Exchange<'a> {
     told: &'a str,
 }
 
-/// What a session shows, its exchanges, and the moment at its end.
-type Session<'a> = (&'a str, &'a [Exchange<'a>], &'a str);
-
 const BINARY: &str = "application/vnd.kafka.binary.v2+json";
 
 const PLAIN: &str = "application/vnd.kafka.v2+json";
@@ -428,37 +425,6 @@ const TOO_FEW: [Exchange<'static>; 4] = [
     },
 ];
 
-const SESSIONS: [Session<'static>; 8] = [
-    (
-        "produces are answered, and store nothing where they are refused",
-        &PRODUCES,
-        "0 at 0\n",
-    ),
-    ("instances are made, named and deleted", &NAMED, "0 at 0\n"),
-    (
-        "rows are read one by one within max_bytes",
-        &ONE_BY_ONE,
-        "0 at 0\n",
-    ),
-    (
-        "rows of two partitions stand in one reply",
-        &ALL_AT_ONCE,
-        "0 at 0\n",
-    ),
-    ("partitions take turns", &IN_TURN, "0 at 0\n"),
-    (
-        "an empty topic is looked at four times",
-        &WAITED,
-        "0 at 30\n",
-    ),
-    (
-        "a look that finds enough bytes doesn't wait",
-        &ENOUGH,
-        "0 at 0\n",
-    ),
-    ("a look that finds too few waits", &TOO_FEW, "0 at 30\n"),
-];
-
 fn push_request(alloc: Global, text: &mut String, one: &Exchange<'_>) -> Result<(), Fail> {
     let (line, body) = (one.line, one.body);
     let size = body.len();
@@ -500,19 +466,58 @@ fn responses_of(alloc: Global, ending: &str, exchanges: &[Exchange<'_>]) -> Resu
     Ok(text)
 }
 
-fn are_answered_so(rt: &impl Abort, alloc: Global, sessions: &[Session<'_>]) -> Result<(), Fail> {
-    for (name, exchanges, ending) in sessions {
-        let input = requests_of(alloc, exchanges)?;
-        let wanted = responses_of(alloc, ending, exchanges)?;
-        let told = story(alloc, &WHOLE, input.as_bytes())?;
-        assert_eq!(rt; told.as_str(), wanted.as_str(), "{name}");
-    }
+/// These exchanges are those of one session, which ends so.
+fn is_session(
+    rt: &impl Abort,
+    alloc: Global,
+    exchanges: &[Exchange<'_>],
+    ending: &str,
+) -> Result<(), Fail> {
+    let input = requests_of(alloc, exchanges)?;
+    let wanted = responses_of(alloc, ending, exchanges)?;
+    let told = story(alloc, &WHOLE, input.as_bytes())?;
+    assert_eq!(rt; told.as_str(), wanted.as_str());
     Ok(())
 }
 
 #[test]
-fn each_session_is_answered_as_the_reference_says(rt: HostRuntime) -> Result<(), Fail> {
-    are_answered_so(&rt, rt.alloc(), &SESSIONS)
+fn a_refused_produce_stores_nothing(rt: HostRuntime) -> Result<(), Fail> {
+    is_session(&rt, rt.alloc(), &PRODUCES, "0 at 0\n")
+}
+
+#[test]
+fn instances_are_made_named_and_deleted(rt: HostRuntime) -> Result<(), Fail> {
+    is_session(&rt, rt.alloc(), &NAMED, "0 at 0\n")
+}
+
+#[test]
+fn rows_are_read_one_by_one_within_max_bytes(rt: HostRuntime) -> Result<(), Fail> {
+    is_session(&rt, rt.alloc(), &ONE_BY_ONE, "0 at 0\n")
+}
+
+#[test]
+fn rows_of_two_partitions_stand_in_one_reply(rt: HostRuntime) -> Result<(), Fail> {
+    is_session(&rt, rt.alloc(), &ALL_AT_ONCE, "0 at 0\n")
+}
+
+#[test]
+fn partitions_take_turns(rt: HostRuntime) -> Result<(), Fail> {
+    is_session(&rt, rt.alloc(), &IN_TURN, "0 at 0\n")
+}
+
+#[test]
+fn an_empty_topic_is_looked_at_four_times(rt: HostRuntime) -> Result<(), Fail> {
+    is_session(&rt, rt.alloc(), &WAITED, "0 at 30\n")
+}
+
+#[test]
+fn a_look_that_finds_enough_bytes_does_not_wait(rt: HostRuntime) -> Result<(), Fail> {
+    is_session(&rt, rt.alloc(), &ENOUGH, "0 at 0\n")
+}
+
+#[test]
+fn a_look_that_finds_too_few_waits(rt: HostRuntime) -> Result<(), Fail> {
+    is_session(&rt, rt.alloc(), &TOO_FEW, "0 at 30\n")
 }
 
 /// The broker refuses the first produce, which is the call behind its metadata, by code 6: it is
@@ -557,7 +562,7 @@ fn served(alloc: Global, input: &str) -> Result<String, Fail> {
     let mut sink = MemSink::new(alloc, 1_000_000, Vec::new(alloc));
     let mut clock = MemClock::new(0, Vec::new(alloc));
     match serve_stream(alloc, &mut source, &mut sink, &mut desk, &mut clock) {
-        Ok(()) => Ok(String::from_str(alloc, text(sink.written()))?),
+        Ok(_ended) => Ok(String::from_str(alloc, text(sink.written()))?),
         Err(no) => Ok(format!(in alloc; "{no:?}")?),
     }
 }

@@ -5,6 +5,7 @@ ghost use Rattle.proxy_cli.specs.Session.{SessionServes, SessionLoses, SessionSt
 ghost use Rattle.proxy_cli.specs.Status.{IsStatus, served_status};
 ghost use Rattle.proxy_cli.specs.Words.{advertise_of, plans_of, words_of};
 
+use crate::ended::Ended;
 use crate::session::serve_stream;
 use crate::words::{Command, WordNo, read_words};
 use broker_link::MemLink;
@@ -35,11 +36,11 @@ fn advertise_in(command: &Command) -> &str
     }
 }
 
-fn status_of<E: Sink>(err: &mut E, served: Result<(), ConnNo>) -> u8
+fn status_of<E: Sink>(err: &mut E, served: Result<Ended, ConnNo>) -> u8
     ensures { result ≡ served_status served }
 {
     match served {
-        Ok(()) => 0,
+        Ok(_ended) => 0,
         Err(ConnNo::ReadFault) => {
             say(err, b"read fault");
             3

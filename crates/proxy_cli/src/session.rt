@@ -1,4 +1,4 @@
-ghost use Rattle.std.specs.Prelude.{◌≡◌, ◌≤◌, ◌<◌, ◌⊎◌, ◌||◌, ℕ, List, [], Ok, Err, true, false, OnOk, OnErr, Some, None, take, length};
+ghost use Rattle.std.specs.Prelude.{◌≡◌, ◌≤◌, ◌<◌, ◌⊎◌, ◌||◌, ℕ, List, [], Ok, Err, true, false, IfOk, OnOk, OnErr, Some, None, take, length};
 ghost use Rattle.std.specs.Io.KnownBytes.{Appends};
 ghost use Rattle.gate_io.specs.Counts.{Rose};
 ghost use Rattle.broker_link.specs.Stands.{Goes};
@@ -9,10 +9,12 @@ ghost use Rattle.http_conn.specs.declared.request.ConnNo.TheVariants.{WriteFault
 ghost use Rattle.http_conn.specs.Told.{Comes};
 ghost use Rattle.http_conn.specs.Next.{IsWaiting};
 ghost use Rattle.proxy_cli.specs.Served.{Exchanges, ExchangesAll, IsKnown, OrWant};
-ghost use Rattle.proxy_cli.specs.Session.{ServesAll, ServesSome, ServesFirst, ServesUntil};
+ghost use Rattle.proxy_cli.specs.declared.ended.EndWhy.{EndWhy as AWhy};
+ghost use Rattle.proxy_cli.specs.Session.{EndsSo, ServesSome, ServesFirst, ServesUntil};
 ghost use Rattle.proxy_cli.specs.Turn.{ServesOne, EndsHere, CutAt, CutsReply, CutsRefusal};
 
 use crate::answer::answer;
+use crate::ended::{EndWhy, Ended};
 use broker_link::Link;
 use desk::AloneDesk;
 use gate_io::{Clock, Sink, Source, Want};
@@ -105,7 +107,7 @@ fn closes(request: &Request, is_last: bool) -> bool
     request.close || is_last
 }
 
-/// Serves one request. False where there is no further one.
+/// Serves one request. Some where there is no further one, with the reason.
 fn serve_one<S: Source, K: Sink, L: Link + Drop, C: Clock>(
     alloc: Global,
     connection: &mut Connection,
@@ -114,12 +116,12 @@ fn serve_one<S: Source, K: Sink, L: Link + Drop, C: Clock>(
     desk: &mut AloneDesk<L>,
     clock: &mut C,
     close: bool,
-) -> Result<bool, ConnNo>
+) -> Result<Option<EndWhy>, ConnNo>
     requires { connection.old.over ≡ false }
-    ensures going { result ≡ Ok true → connection.new.over ≡ false }
-    ensures served { result ≡ Ok true → IsKnown L.stand desk.old → (all : List ℕ) → Comes connection.old.held (S.left source.old) all
+    ensures going { result ≡ Ok None → connection.new.over ≡ false }
+    ensures served { result ≡ Ok None → IsKnown L.stand desk.old → (all : List ℕ) → Comes connection.old.held (S.left source.old) all
         → ServesOne (Exchanges L.stand C.tells C.hand desk.old clock.old desk.new clock.new) all connection.new.held (S.left source.new) (K.held sink.old) (K.held sink.new) close }
-    ensures ended { result ≡ Ok false → (desk.new ≡ desk.old) × (clock.new ≡ clock.old) × ((all : List ℕ) → Comes connection.old.held (S.left source.old) all → EndsHere all (K.held sink.old) (K.held sink.new)) }
+    ensures ended { (why : AWhy) → result ≡ Ok (Some why) → (desk.new ≡ desk.old) × (clock.new ≡ clock.old) × ((all : List ℕ) → Comes connection.old.held (S.left source.old) all → EndsHere why all (K.held sink.old) (K.held sink.new)) }
     ensures cut { (n : ℕ) → result ≡ Err (WriteFault n) → IsKnown L.stand desk.old → (all : List ℕ) → Comes connection.old.held (S.left source.old) all
         → CutsReply (Exchanges L.stand C.tells C.hand desk.old clock.old desk.new clock.new) n all (K.held sink.old) (K.held sink.new) close
         ⊎ (CutsRefusal n all (K.held sink.old) (K.held sink.new) × (desk.new ≡ desk.old) × (clock.new ≡ clock.old)) }
@@ -140,15 +142,15 @@ fn serve_one<S: Source, K: Sink, L: Link + Drop, C: Clock>(
         Ok(Next::Ready(request)) => {
             let close = closes(&request, close);
             match exchange(alloc, connection, sink, desk, clock, &request, close) {
-                Ok(()) => Ok(true),
+                Ok(()) => Ok(None),
                 Err(e) => Err(e),
             }
         }
-        Ok(Next::Continue) => Ok(false),
-        Ok(Next::End) => Ok(false),
-        Ok(Next::CutShort) => Ok(false),
+        Ok(Next::Continue) => Ok(Some(EndWhy::End)),
+        Ok(Next::End) => Ok(Some(EndWhy::End)),
+        Ok(Next::CutShort) => Ok(Some(EndWhy::CutShort)),
         Ok(Next::Bad(reply)) => match refuse(alloc, connection, sink, &reply) {
-            Ok(()) => Ok(false),
+            Ok(()) => Ok(Some(EndWhy::BadPlace)),
             Err(e) => Err(e),
         },
         Err(e) => Err(e),
@@ -156,15 +158,16 @@ fn serve_one<S: Source, K: Sink, L: Link + Drop, C: Clock>(
 }
 
 /// Serves the requests of a source in turn, and writes their responses. A failed read or write and
-/// want of memory end it; what was answered until then has had its effect.
+/// want of memory end it; what was answered until then has had its effect. Where nothing fails, it
+/// tells how many requests were answered, and why there is no further one.
 pub fn serve_stream<S: Source, K: Sink, L: Link + Drop, C: Clock>(
     alloc: Global,
     source: &mut S,
     sink: &mut K,
     desk: &mut AloneDesk<L>,
     clock: &mut C,
-) -> Result<(), ConnNo>
-    ensures output { OnOk result (IsKnown L.stand desk.old → ServesAll (ExchangesAll L.stand C.tells C.hand desk.old clock.old desk.new clock.new) (S.left source.old) (K.held sink.old) (K.held sink.new)) }
+) -> Result<Ended, ConnNo>
+    ensures output { IfOk result (λ ended. IsKnown L.stand desk.old → EndsSo ended (ExchangesAll L.stand C.tells C.hand desk.old clock.old desk.new clock.new) (S.left source.old) (K.held sink.old) (K.held sink.new)) }
     ensures lost { result ≡ Err ReadFault → IsKnown L.stand desk.old → ServesSome (ExchangesAll L.stand C.tells C.hand desk.old clock.old desk.new clock.new) (S.left source.old) (S.left source.new) (K.held sink.old) (K.held sink.new) }
     ensures cut { (n : ℕ) → result ≡ Err (WriteFault n) → IsKnown L.stand desk.old → ServesUntil (ExchangesAll L.stand C.tells C.hand desk.old clock.old desk.new clock.new) (S.left source.old) (K.held sink.old) (K.held sink.new) n }
     ensures starved { result ≡ Err WantConn → IsKnown L.stand desk.old → ServesFirst (ExchangesAll L.stand C.tells C.hand desk.old clock.old desk.new clock.new) (S.left source.old) (K.held sink.old) (K.held sink.new) }
@@ -179,10 +182,16 @@ pub fn serve_stream<S: Source, K: Sink, L: Link + Drop, C: Clock>(
     for count in 0..MAX_REQUESTS {
         let close = count + 1 == MAX_REQUESTS;
         match serve_one(alloc, &mut connection, source, sink, desk, clock, close) {
-            Ok(true) => {}
-            Ok(false) => return Ok(()),
+            Ok(None) => {}
+            Ok(Some(why)) => {
+                let requests = count;
+                return Ok(Ended { requests, why });
+            }
             Err(e) => return Err(e),
         }
     }
-    Ok(())
+    Ok(Ended {
+        requests: MAX_REQUESTS,
+        why: EndWhy::Limit,
+    })
 }

@@ -160,8 +160,10 @@ const BAD: &str = "GET / HTTP/1.0\r\n\r\nunread";
 const BAD_REQUEST: &str =
     "HTTP/1.1 400 Bad Request\r\nContent-Type: application/vnd.kafka.v2+json\r\nContent-Length: 43\r\nConnection: close\r\n\r\n{\"error_code\":400,\"message\":\"Bad request.\"}";
 
-/// What is sent, all but its last bytes, and what is answered.
-const CUTS: [(&str, &[&str], usize, &[&str]); 9] = [
+/// What is sent, all but so many of its last bytes, and what is answered.
+type Cut<'a> = (&'a str, &'a [&'a str], usize, &'a [&'a str]);
+
+const CUTS: [Cut<'static>; 9] = [
     ("nothing", &[], 0, &[]),
     ("a byte is left out", &[ONE], 1, &[]),
     ("all but a byte of the body is left out", &[ONE], 47, &[]),
@@ -173,11 +175,7 @@ const CUTS: [(&str, &[&str], usize, &[&str]); 9] = [
     ("two requests", &[ONE, ONE], 0, &[FIRST, SECOND]),
 ];
 
-fn cuts_end_so(
-    rt: &impl Abort,
-    alloc: Global,
-    cases: &[(&str, &[&str], usize, &[&str])],
-) -> Result<(), Fail> {
+fn cuts_end_so(rt: &impl Abort, alloc: Global, cases: &[Cut<'_>]) -> Result<(), Fail> {
     for (name, requests, left, responses) in cases {
         let row = Row {
             name,

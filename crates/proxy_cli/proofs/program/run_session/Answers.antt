@@ -31,7 +31,7 @@ returns-clause-output g c = λ zero.
     (λ i. record { state = record { world = c.new-desk.ensures.instances i; log = log_is i; hand = g.C.Clock.hand c.args.clock.now; counts = counts_is i }; unnamed = c.new-desk.ensures.unnamed i }) in
     let so = session_answers _ plain (g.C.Clock.tells c.args.clock.now) made.shard.advertise (advertise_of command) first (first_gateway command (g.C.Clock.hand c.args.clock.now)) end name_is start in
     let said = zero_is c.serve_stream-served.result _ (sym c.status_of.ensures ∙ zero) c.serve_stream-served.ensures.output in
-    (command, c.in-Ok.ensures.words, end, refl, all_so _ _ so _ _ _ (said (tells, is_log)))
+    (command, c.in-Ok.ensures.words, end, refl, all_so _ _ so said.0 _ _ _ (said.1 (tells, is_log)))
 
 pub returns-clause-lost : goal.returns-clause-lost
 returns-clause-lost g c = λ three.

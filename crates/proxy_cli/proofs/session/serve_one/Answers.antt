@@ -3,11 +3,18 @@ use Rattle.std.specs.Io.KnownBytes.{Appends}
 use Rattle.http_conn.specs.declared.request.ConnNo.{ConnNo}
 use Rattle.http_conn.specs.declared.request.ConnNo.TheVariants.{WriteFault}
 use Rattle.http_conn.specs.Told.{Comes, Conn}
+use Rattle.http_conn.specs.Stream.{Ending}
 use Rattle.http_conn.specs.Stream.Ending.{CutShort, BadPlace}
 use Rattle.rest_codes.specs.Response.{response_of}
 use Rattle.proxy_cli.specs.Turn.{CutAt}
+use Rattle.proxy_cli.specs.Ended.{IsWhy}
+use Rattle.proxy_cli.specs.declared.ended.EndWhy.{EndWhy}
+use Rattle.proxy_cli.specs.declared.ended.EndWhy.TheVariants.{CutShort as InARequest, BadPlace as AtABadPlace}
 use Rattle.proxy_cli.proofs.Wants.{nothing_appended}
 use Rattle.proxy_cli.proofs.session.serve_one.Goals as goal
+
+why_is : (why is : EndWhy) (ending : Ending) → is ≡ why → IsWhy is ending → IsWhy why ending
+why_is why is ending e so = subst (λ (x : EndWhy). IsWhy x ending) e so
 
 pub returns-in-Ok-clause-served : goal.returns-in-Ok-clause-served
 returns-in-Ok-clause-served g c = λ e known all comes.
@@ -40,22 +47,22 @@ returns-in-Ok-Ready-clause-cut g c = λ n e known all comes.
     })
 
 pub returns-in-Ok-CutShort-clause-ended : goal.returns-in-Ok-CutShort-clause-ended
-returns-in-Ok-CutShort-clause-ended g c = λ e. (
+returns-in-Ok-CutShort-clause-ended g c = λ why e. (
   refl,
   refl,
   λ all comes.
       let given = rw c.in-Ok-CutShort.field-0-is at (c.in-Ok-CutShort.ensures.given c.requires) in
       let front = given all comes in
-      record { ending = CutShort false; ends = (refl, front.2.0); last = []; is_last = refl; wrote = nothing_appended (g.K.Sink.held c.args.sink.now) },
+      record { ending = CutShort false; is_why = why_is why InARequest (CutShort false) (cc e) tt; ends = (refl, front.2.0); last = []; is_last = refl; wrote = nothing_appended (g.K.Sink.held c.args.sink.now) },
 )
 
 pub returns-in-Ok-refuse-clause-ended : goal.returns-in-Ok-refuse-clause-ended
-returns-in-Ok-refuse-clause-ended g c = λ e. (
+returns-in-Ok-refuse-clause-ended g c = λ why e. (
   refl,
   refl,
   λ all comes.
       let given = rw c.in-Ok-Bad.field-0-is at (c.in-Ok-Bad.ensures.given c.requires) in
       let front = given all comes in
       let said = c.in-Ok-refuse.ensures.wrote in
-      record { ending = BadPlace false c.in-Ok-Bad.reply; ends = (refl, front.2.0); last = response_of said.0 true; is_last = (said.0, said.1, refl); wrote = said.2 },
+      record { ending = BadPlace false c.in-Ok-Bad.reply; is_why = why_is why AtABadPlace (BadPlace false c.in-Ok-Bad.reply) (cc e) tt; ends = (refl, front.2.0); last = response_of said.0 true; is_last = (said.0, said.1, refl); wrote = said.2 },
 )

@@ -1,10 +1,11 @@
-use Rattle.std.proofs.Common.{◌≡◌, ◌∙◌, ◌+◌, ℕ, List, refl, ap, sym, subst, arith, inl, inr, Ok, Err, Bool}
+use Rattle.std.proofs.Common.{◌≡◌, ◌∙◌, ◌+◌, refl, ap, sym, subst, arith, inl, inr, Ok, Err, Option}
 use Rattle.std.specs.Prelude.{◌==◌}
 use Rattle.broker_link.proofs.Going.{goes_nowhere, goes_on}
 use Rattle.http_conn.specs.declared.request.ConnNo.{ConnNo}
 use Rattle.http_conn.specs.declared.request.ConnNo.TheVariants.{ReadFault, WriteFault, Want}
 use Rattle.http_conn.specs.Stream.{max_requests}
 use Rattle.http_conn.specs.Told.{Conn}
+use Rattle.proxy_cli.specs.declared.ended.EndWhy.{EndWhy}
 use Rattle.proxy_cli.specs.Served.{Exchanges, ExchangesAll}
 use Rattle.proxy_cli.proofs.Answered.{exchanges_none, exchanges_more, exchanges_same}
 use Rattle.proxy_cli.proofs.Progress.{Progress, progress_start, progress_more, progress_end, progress_limit, progress_lost, progress_cut, progress_starved, same_held}
@@ -34,8 +35,8 @@ loop-count-init g c = record {
 pub loop-count-preserved : goal.loop-count-preserved
 loop-count-preserved g c =
     let before = c.loop-count.invariant in
-    let said = c.in-Ok-true.ensures in
-    let going = ap (λ (b : Bool). Ok b) c.in-Ok-true.field-0-test in
+    let said = c.in-Ok-None.ensures in
+    let going = ap (λ (o : Option EndWhy). Ok o) c.in-Ok-None.field-0-is in
     record {
       open_still = said.going going;
       advertise = said.advertise ∙ before.advertise;
@@ -51,10 +52,10 @@ loop-count-preserved g c =
       stalls = omega (arith, before.stalls, said.writes.1);
     }
 
-pub returns-in-Ok-false-clause-output : goal.returns-in-Ok-false-clause-output
-returns-in-Ok-false-clause-output g c = λ known input told.
-    let ended = c.in-Ok-false.ensures.ended (ap (λ (b : Bool). Ok b) c.in-Ok-false.field-0-test) in
-    progress_end _ input _ _ _ _ _ _ c.loop-count-test.true
+pub returns-in-Ok-Some-clause-output : goal.returns-in-Ok-Some-clause-output
+returns-in-Ok-Some-clause-output g c = λ known input told.
+    let ended = c.in-Ok-Some.ensures.ended c.in-Ok-Some.why (ap (λ (o : Option EndWhy). Ok o) c.in-Ok-Some.field-0-is) in
+    progress_end _ input _ _ _ _ _ _ c.in-Ok-Some.why c.loop-count-test.true
     (same_held _ _ input _ _ _ _ _ _ refl (exchanges_same g.L.Link.stand g.C.Clock.tells g.C.Clock.hand c.args.desk.now c.loop-count.desk c.serve_one.new.desk c.args.clock.now c.loop-count.clock c.serve_one.new.clock ended.0 ended.1) (c.loop-count.invariant.progress known input told)) ended.2
 
 pub returns-clause-output : goal.returns-clause-output
