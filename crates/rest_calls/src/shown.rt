@@ -1,6 +1,7 @@
 //! Requests and calls of tests.
 
 use crate::call::{Call, Payload, Row, Settings};
+use crate::reading::call_of;
 use broker_link::{Edge, TopicPart};
 use gate_io::{Items, Text};
 use http::Method;
@@ -9,8 +10,28 @@ use rest_codes::Reply;
 use std::alloc::{AllocError, Global};
 use std::test::Fail;
 
+/// A content type, or none where it is empty.
+fn media_of(alloc: Global, media: &str) -> Result<Option<Items<u8>>, AllocError> {
+    if media.is_empty() {
+        return Ok(None);
+    }
+    Ok(Some(Items::from_slice(alloc, media.as_bytes())?))
+}
+
+fn line_of(
+    alloc: Global,
+    method: &str,
+    path: &str,
+    query: &str,
+) -> Result<(Method, Text, Text), Fail> {
+    let method = Method::from_bytes(alloc, method.as_bytes())?;
+    let path = Text::from_str(alloc, path)?;
+    let query = Text::from_str(alloc, query)?;
+    Ok((method, path, query))
+}
+
 /// A request with this content type, or with none where it is empty.
-pub(crate) fn request_of(
+fn request_of(
     alloc: Global,
     method: &str,
     path: &str,
@@ -18,20 +39,18 @@ pub(crate) fn request_of(
     media: &str,
     body: &[u8],
 ) -> Result<Request, Fail> {
-    let content_type = if media.is_empty() {
-        None
-    } else {
-        Some(Items::from_slice(alloc, media.as_bytes())?)
-    };
+    let (method, path, query) = line_of(alloc, method, path, query)?;
+    let content_type = media_of(alloc, media)?;
+    let body = Items::from_slice(alloc, body)?;
     Ok(Request {
-        method: Method::from_bytes(alloc, method.as_bytes())?,
-        path: Text::from_str(alloc, path)?,
-        query: Text::from_str(alloc, query)?,
+        method,
+        path,
+        query,
         accept: None,
         content_type,
         encoded: false,
         close: false,
-        body: Items::from_slice(alloc, body)?,
+        body,
     })
 }
 
@@ -147,7 +166,7 @@ fn show_call(alloc: Global, out: &mut String, call: &Call) -> Result<(), AllocEr
 }
 
 /// A call as a text, or the code and message of a refusal.
-pub(crate) fn shown(alloc: Global, read: &Result<Call, Reply>) -> Result<String, AllocError> {
+fn shown(alloc: Global, read: &Result<Call, Reply>) -> Result<String, AllocError> {
     let mut out = String::new(alloc);
     match read {
         Ok(call) => show_call(alloc, &mut out, call)?,
@@ -159,4 +178,22 @@ pub(crate) fn shown(alloc: Global, read: &Result<Call, Reply>) -> Result<String,
         Err(_) => out.push_str("another reply")?,
     }
     Ok(out)
+}
+
+fn read(alloc: Global, request: &Request) -> Result<Call, Reply> {
+    call_of(alloc, request)
+}
+
+/// What such a request reads as, as a text.
+pub(crate) fn told(
+    alloc: Global,
+    method: &str,
+    path: &str,
+    query: &str,
+    media: &str,
+    body: &[u8],
+) -> Result<String, Fail> {
+    let request = request_of(alloc, method, path, query, media, body)?;
+    let read = read(alloc, &request);
+    Ok(shown(alloc, &read)?)
 }

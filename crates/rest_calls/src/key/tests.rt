@@ -1,28 +1,44 @@
 use super::key_of;
 use crate::call::{Call, Settings};
 use broker_link::Edge;
-use gate_io::Text;
+use gate_io::{Items, Text};
+use std::alloc::Global;
 use std::test::Fail;
 
+fn key_of_a_create(alloc: Global) -> Result<Items<u8>, Fail> {
+    let group = Text::from_str(alloc, "g")?;
+    let name = Text::from_str(alloc, "c1")?;
+    let settings = Settings {
+        reset: Edge::End,
+        min_bytes: 1,
+        timeout_ms: 1000,
+    };
+    let call = Call::Create {
+        group,
+        name: Some(name),
+        settings,
+    };
+    Ok(key_of(alloc, &call)?)
+}
+
+fn key_of_a_delete(alloc: Global) -> Result<Items<u8>, Fail> {
+    let group = Text::from_str(alloc, "g")?;
+    let instance = Text::from_str(alloc, "c1")?;
+    Ok(key_of(alloc, &Call::Delete { group, instance })?)
+}
+
 #[test]
-fn a_key_is_the_group_a_zero_byte_and_the_instance(rt: HostRuntime) -> Result<(), Fail> {
-    let alloc = rt.alloc();
-    let create = Call::Create {
-        group: Text::from_str(alloc, "g")?,
-        name: Some(Text::from_str(alloc, "c1")?),
-        settings: Settings {
-            reset: Edge::End,
-            min_bytes: 1,
-            timeout_ms: 1000,
-        },
-    };
-    let delete = Call::Delete {
-        group: Text::from_str(alloc, "g")?,
-        instance: Text::from_str(alloc, "c1")?,
-    };
-    for call in [&create, &delete] {
-        let key = key_of(alloc, call)?;
-        assert!(rt; key.as_slice() == b"g\0c1".as_slice());
-    }
+fn the_key_of_a_create_is_the_group_a_zero_byte_and_the_name(rt: HostRuntime) -> Result<(), Fail> {
+    let key = key_of_a_create(rt.alloc())?;
+    assert!(rt; key.as_slice() == b"g\0c1".as_slice());
+    Ok(())
+}
+
+#[test]
+fn the_key_of_another_call_is_the_group_a_zero_byte_and_the_instance(
+    rt: HostRuntime,
+) -> Result<(), Fail> {
+    let key = key_of_a_delete(rt.alloc())?;
+    assert!(rt; key.as_slice() == b"g\0c1".as_slice());
     Ok(())
 }

@@ -1,6 +1,5 @@
-use super::call_of;
 use crate::path::is_topic_name;
-use crate::shown::{request_of, shown};
+use crate::shown::told;
 use std::alloc::{AllocError, Global};
 use std::process::Abort;
 use std::test::Fail;
@@ -9,13 +8,7 @@ const BINARY: &str = "application/vnd.kafka.binary.v2+json";
 
 const ONE_RECORD: &[u8] = b"{\"records\":[{\"value\":\"S2Fma2E=\",\"partition\":0}]}";
 
-/// What a POST of binary records to `/topics/t` with this body reads as.
-fn shown_body(alloc: Global, body: &[u8]) -> Result<String, Fail> {
-    let request = request_of(alloc, "POST", "/topics/t", "", BINARY, body)?;
-    Ok(shown(alloc, &call_of(alloc, &request))?)
-}
-
-/// This body reads so.
+/// A POST of binary records to `/topics/t` with this body reads so.
 fn reads_as(
     rt: &impl Abort,
     alloc: Global,
@@ -23,7 +16,7 @@ fn reads_as(
     want: &str,
     place: usize,
 ) -> Result<(), Fail> {
-    let text = shown_body(alloc, body)?;
+    let text = told(alloc, "POST", "/topics/t", "", BINARY, body)?;
     assert_eq!(rt; text.as_str(), want, "case {place}");
     Ok(())
 }
@@ -208,8 +201,7 @@ fn requests_are_not_found(
     cases: &[(&str, &str, &str)],
 ) -> Result<(), Fail> {
     for (place, (method, path, media)) in cases.iter().enumerate() {
-        let request = request_of(alloc, method, path, "", media, b"{}")?;
-        let text = shown(alloc, &call_of(alloc, &request))?;
+        let text = told(alloc, method, path, "", media, b"{}")?;
         assert_eq!(rt; text.as_str(), "404 Not found.", "case {place}");
     }
     Ok(())
@@ -260,8 +252,8 @@ fn names_are_taken(rt: &impl Abort, alloc: Global, cases: &[(&str, bool)]) -> Re
     let long = long.as_str();
     for (end, is_taken) in cases {
         let path = format!(in alloc; "/topics/{long}{end}")?;
-        let request = request_of(alloc, "POST", path.as_str(), "", BINARY, ONE_RECORD)?;
-        assert_eq!(rt; call_of(alloc, &request).is_ok(), *is_taken, "end {end}");
+        let text = told(alloc, "POST", path.as_str(), "", BINARY, ONE_RECORD)?;
+        assert_eq!(rt; text.as_str() != "404 Not found.", *is_taken, "end {end}");
     }
     Ok(())
 }
@@ -278,8 +270,7 @@ fn topics_are_read(rt: &impl Abort, alloc: Global, names: &[&str]) -> Result<(),
     for name in names {
         assert!(rt; is_topic_name(name), "{name}");
         let path = format!(in alloc; "/topics/{name}")?;
-        let request = request_of(alloc, "POST", path.as_str(), "", BINARY, ONE_RECORD)?;
-        let text = shown(alloc, &call_of(alloc, &request))?;
+        let text = told(alloc, "POST", path.as_str(), "", BINARY, ONE_RECORD)?;
         let want = format!(in alloc; "{name}; 0 null #4b61666b61")?;
         assert_eq!(rt; text.as_str(), want.as_str());
     }

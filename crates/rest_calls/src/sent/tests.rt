@@ -1,5 +1,4 @@
-use crate::reading::call_of;
-use crate::shown::{request_of, shown};
+use crate::shown::told;
 use std::alloc::{AllocError, Global};
 use std::process::Abort;
 use std::test::Fail;
@@ -13,18 +12,6 @@ const NOT_FOUND: &str = "404 Not found.";
 /// The path of instance `c1` in group `g`, with this end.
 fn path_of(alloc: Global, end: &str) -> Result<String, AllocError> {
     format!(in alloc; "/consumers/g/instances/c1{end}")
-}
-
-/// What a request without a content type reads as.
-fn shown_request(
-    alloc: Global,
-    method: &str,
-    path: &str,
-    query: &str,
-    body: &[u8],
-) -> Result<String, Fail> {
-    let request = request_of(alloc, method, path, query, "", body)?;
-    Ok(shown(alloc, &call_of(alloc, &request))?)
 }
 
 /// A request without a content type reads so.
@@ -46,7 +33,7 @@ fn places_read_as(
     cases: &[(&str, &str, &str, &[u8], &str)],
 ) -> Result<(), Fail> {
     for (place, (method, path, query, body, want)) in cases.iter().enumerate() {
-        let text = shown_request(alloc, method, path, query, body);
+        let text = told(alloc, method, path, query, "", body);
         reads_as(rt, text, want, place)?;
     }
     Ok(())
@@ -59,7 +46,7 @@ fn places_are_not_found(
     cases: &[(&str, &str)],
 ) -> Result<(), Fail> {
     for (place, (method, path)) in cases.iter().enumerate() {
-        let text = shown_request(alloc, method, path, "", b"{\"partitions\":[]}");
+        let text = told(alloc, method, path, "", "", b"{\"partitions\":[]}");
         reads_as(rt, text, NOT_FOUND, place)?;
     }
     Ok(())
@@ -164,10 +151,10 @@ fn repeated(alloc: Global, count: usize, one: &str) -> Result<String, Fail> {
     Ok(long)
 }
 
-/// Whether the request is read as a call.
+/// Whether the request is read as a call: a refusal begins with its code.
 fn is_read(alloc: Global, method: &str, path: &str, body: &[u8]) -> Result<bool, Fail> {
-    let request = request_of(alloc, method, path, "", "", body)?;
-    Ok(call_of(alloc, &request).is_ok())
+    let text = told(alloc, method, path, "", "", body)?;
+    Ok(!text.starts_with("4"))
 }
 
 /// A group and an instance of 248 characters with each end are taken, or not.
@@ -194,7 +181,7 @@ fn takes_groups_and_instances_of_1_to_249_characters(rt: HostRuntime) -> Result<
 
 /// What a Create in group `g` with this body reads as.
 fn shown_create(alloc: Global, body: &[u8]) -> Result<String, Fail> {
-    shown_request(alloc, "POST", "/consumers/g", "", body)
+    told(alloc, "POST", "/consumers/g", "", "", body)
 }
 
 /// Each setting of a Create reads as the text beside it.
@@ -338,7 +325,7 @@ fn takes_names_of_1_to_249_bytes(rt: HostRuntime) -> Result<(), Fail> {
 /// What an Assign of instance `c1` in group `g` with this body reads as.
 fn shown_assign(alloc: Global, body: &[u8]) -> Result<String, Fail> {
     let path = path_of(alloc, "/assignments")?;
-    shown_request(alloc, "POST", path.as_str(), "", body)
+    told(alloc, "POST", path.as_str(), "", "", body)
 }
 
 /// Each body of an Assign reads as the text beside it.
@@ -428,12 +415,7 @@ fn queries_read_as(rt: &impl Abort, alloc: Global, cases: &[(&str, &str)]) -> Re
     let path = path_of(alloc, "/records")?;
     let path = path.as_str();
     for (place, (query, want)) in cases.iter().enumerate() {
-        reads_as(
-            rt,
-            shown_request(alloc, "GET", path, query, b""),
-            want,
-            place,
-        )?;
+        reads_as(rt, told(alloc, "GET", path, query, "", b""), want, place)?;
     }
     Ok(())
 }
