@@ -46,7 +46,7 @@ impl Laid for ApiVersionsRequest {
     ghost laid = { api_versions_request_laid };
 }
 
-/// The versions that the broker knows.
+/// The versions that the broker knows: `error_code`, and `api_keys` as `rows`.
 #[derive(Drop)]
 pub struct ApiVersionsResponse {
     pub code: i16,
@@ -91,7 +91,7 @@ impl Laid for ApiVersionsResponse {
     ghost laid = { api_versions_response_laid };
 }
 
-/// The lowest and highest version of a message.
+/// The lowest and highest version of a message (`ApiVersion`): `api_key`, `min_version`, `max_version`.
 #[derive(Drop)]
 pub struct ApiVersionsResponseRow {
     pub key: i16,

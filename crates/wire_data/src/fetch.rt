@@ -11,7 +11,8 @@ use wire_layout::{
 };
 use wire_prim::{Cursor, PrimNo};
 
-/// Asks for batches of partitions. The wait is in milliseconds.
+/// Asks for batches of partitions. `replica` is `replica_id`, `isolation` is `isolation_level`, `rows` is `topics`. The wait
+/// is in milliseconds.
 #[derive(Drop)]
 pub struct FetchRequest {
     pub replica: i32,
@@ -81,7 +82,7 @@ impl Laid for FetchRequest {
     ghost laid = { fetch_request_laid };
 }
 
-/// A topic.
+/// A topic (`FetchTopic`). `name` is `topic`, `rows` is `partitions`.
 #[derive(Drop)]
 pub struct FetchRequestRow {
     pub name: Text,
@@ -110,7 +111,8 @@ impl Laid for FetchRequestRow {
     ghost laid = { fetch_request_row_laid };
 }
 
-/// A partition, and the offset from which it is asked.
+/// A partition, and the offset from which it is asked (`FetchPartition`). `offset` is `fetch_offset`, `max_bytes` is
+/// `partition_max_bytes`.
 #[derive(Drop)]
 pub struct FetchRequestRowRow {
     pub partition: i32,
@@ -149,7 +151,7 @@ impl Laid for FetchRequestRowRow {
     ghost laid = { fetch_request_row_row_laid };
 }
 
-/// The batches of partitions.
+/// The batches of partitions. `throttle_ms` is `throttle_time_ms`, in milliseconds, `rows` is `responses`.
 #[derive(Drop)]
 pub struct FetchResponse {
     pub throttle_ms: i32,
@@ -194,7 +196,7 @@ impl Laid for FetchResponse {
     ghost laid = { fetch_response_laid };
 }
 
-/// A topic.
+/// A topic (`FetchableTopicResponse`). `name` is `topic`, `rows` is `partitions`.
 #[derive(Drop)]
 pub struct FetchResponseRow {
     pub name: Text,
@@ -223,7 +225,8 @@ impl Laid for FetchResponseRow {
     ghost laid = { fetch_response_row_laid };
 }
 
-/// A partition and its batches, of which the last may be cut.
+/// A partition and its batches, of which the last may be cut (`PartitionData`). `partition` is `partition_index`, `code` is
+/// `error_code`, `stable_offset` is `last_stable_offset`, `rows` is `aborted_transactions`, `batches` is `records`.
 #[derive(Drop)]
 pub struct FetchResponseRowRow {
     pub partition: i32,
@@ -277,7 +280,7 @@ impl Laid for FetchResponseRowRow {
     ghost laid = { fetch_response_row_row_laid };
 }
 
-/// A transaction that was aborted.
+/// A transaction that was aborted (`AbortedTransaction`). `producer` is `producer_id`, `first` is `first_offset`.
 #[derive(Drop)]
 pub struct FetchResponseRowRowRow {
     pub producer: i64,

@@ -8,7 +8,8 @@ use std::alloc::Global;
 use wire_layout::{Laid, WireNo, read_front, write_whole};
 use wire_prim::{Cursor, PrimNo};
 
-/// What stands before a request's body.
+/// What stands before a request's body (request header, version 1): `request_api_key`, `request_api_version`,
+/// `correlation_id` and `client_id`.
 #[derive(Drop)]
 pub struct RequestHeader {
     pub key: i16,
@@ -68,7 +69,7 @@ impl Laid for RequestHeader {
     ghost laid = { request_header_laid };
 }
 
-/// What stands before a response's body.
+/// What stands before a response's body (response header, version 0): `correlation_id`.
 #[derive(Drop)]
 pub struct ResponseHeader {
     pub correlation: i32,

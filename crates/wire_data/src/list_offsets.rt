@@ -8,7 +8,7 @@ use std::alloc::Global;
 use wire_layout::{Laid, WireNo, read_whole, write_whole};
 use wire_prim::{Cursor, PrimNo};
 
-/// Asks for offsets by time.
+/// Asks for offsets by time. `replica` is `replica_id`, `rows` is `topics`.
 #[derive(Drop)]
 pub struct ListOffsetsRequest {
     pub replica: i32,
@@ -53,7 +53,7 @@ impl Laid for ListOffsetsRequest {
     ghost laid = { list_offsets_request_laid };
 }
 
-/// A topic.
+/// A topic (`ListOffsetsTopic`). `rows` is `partitions`.
 #[derive(Drop)]
 pub struct ListOffsetsRequestRow {
     pub name: Text,
@@ -82,7 +82,8 @@ impl Laid for ListOffsetsRequestRow {
     ghost laid = { list_offsets_request_row_laid };
 }
 
-/// A partition and a time: -1 is its end, -2 its start.
+/// A partition and a time in milliseconds (`ListOffsetsPartition`): -1 is its end, -2 its start. `partition` is
+/// `partition_index`.
 #[derive(Drop)]
 pub struct ListOffsetsRequestRowRow {
     pub partition: i32,
@@ -114,7 +115,7 @@ impl Laid for ListOffsetsRequestRowRow {
     ghost laid = { list_offsets_request_row_row_laid };
 }
 
-/// Offsets by time.
+/// Offsets by time. `rows` is `topics`.
 #[derive(Drop)]
 pub struct ListOffsetsResponse {
     pub rows: Items<ListOffsetsResponseRow>,
@@ -156,7 +157,7 @@ impl Laid for ListOffsetsResponse {
     ghost laid = { list_offsets_response_laid };
 }
 
-/// A topic.
+/// A topic (`ListOffsetsTopicResponse`). `rows` is `partitions`.
 #[derive(Drop)]
 pub struct ListOffsetsResponseRow {
     pub name: Text,
@@ -185,7 +186,7 @@ impl Laid for ListOffsetsResponseRow {
     ghost laid = { list_offsets_response_row_laid };
 }
 
-/// A partition, its code, and its offset.
+/// A partition and its offset (`ListOffsetsPartitionResponse`). `partition` is `partition_index`, `code` is `error_code`.
 #[derive(Drop)]
 pub struct ListOffsetsResponseRowRow {
     pub partition: i32,

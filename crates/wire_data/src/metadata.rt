@@ -8,7 +8,7 @@ use std::alloc::Global;
 use wire_layout::{Laid, WireNo, read_whole, write_whole};
 use wire_prim::{Cursor, PrimNo};
 
-/// Asks for topics, all of them where it names none.
+/// Asks for topics, all of them where it names none. `name` is the names of `topics`.
 #[derive(Drop)]
 pub struct MetadataRequest {
     pub name: Option<Items<Text>>,
@@ -50,7 +50,7 @@ impl Laid for MetadataRequest {
     ghost laid = { metadata_request_laid };
 }
 
-/// A broker.
+/// A broker (`MetadataResponseBroker`). `node` is `node_id`.
 #[derive(Drop)]
 pub struct MetadataResponseRow {
     pub node: i32,
@@ -94,7 +94,8 @@ impl Laid for MetadataResponseRow {
     ghost laid = { metadata_response_row_laid };
 }
 
-/// A partition.
+/// A partition (`MetadataResponsePartition`). `code` is `error_code`, `partition` is `partition_index`, `leader` is
+/// `leader_id`, `replica` is `replica_nodes`, `in_sync` is `isr_nodes`.
 #[derive(Drop)]
 pub struct MetadataResponseRow2Row {
     pub code: i16,

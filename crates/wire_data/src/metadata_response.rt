@@ -13,7 +13,7 @@ use std::alloc::Global;
 use wire_layout::{Laid, WireNo, refusal_of};
 use wire_prim::{Cursor, PrimNo, put_count};
 
-/// Brokers and topics.
+/// Brokers and topics. `rows` is `brokers`, `controller` is `controller_id`, `rows2` is `topics`.
 #[derive(Drop)]
 pub struct MetadataResponse {
     pub rows: Items<MetadataResponseRow>,
@@ -21,7 +21,7 @@ pub struct MetadataResponse {
     pub rows2: Items<MetadataResponseRow2>,
 }
 
-/// A topic.
+/// A topic (`MetadataResponseTopic`). `code` is `error_code`, `internal` is `is_internal`, `rows` is `partitions`.
 #[derive(Drop)]
 pub struct MetadataResponseRow2 {
     pub code: i16,

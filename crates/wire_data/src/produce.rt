@@ -11,7 +11,7 @@ use wire_layout::{
 };
 use wire_prim::{Cursor, PrimNo};
 
-/// Appends batches to partitions. The timeout is in milliseconds.
+/// Appends batches to partitions. `rows` is `topic_data`. The timeout is in milliseconds.
 #[derive(Drop)]
 pub struct ProduceRequest {
     pub transactional_id: Option<Text>,
@@ -71,7 +71,7 @@ impl Laid for ProduceRequest {
     ghost laid = { produce_request_laid };
 }
 
-/// A topic.
+/// A topic (`TopicProduceData`). `rows` is `partition_data`.
 #[derive(Drop)]
 pub struct ProduceRequestRow {
     pub name: Text,
@@ -100,7 +100,7 @@ impl Laid for ProduceRequestRow {
     ghost laid = { produce_request_row_laid };
 }
 
-/// A partition and its batches.
+/// A partition and its batches (`PartitionProduceData`). `partition` is `index`, `batch` is `records`.
 #[derive(Drop)]
 pub struct ProduceRequestRowRow {
     pub partition: i32,
@@ -131,7 +131,7 @@ impl Laid for ProduceRequestRowRow {
     ghost laid = { produce_request_row_row_laid };
 }
 
-/// Where the batches stand.
+/// Where the batches stand. `rows` is `responses`, `throttle_ms` is `throttle_time_ms`, in milliseconds.
 #[derive(Drop)]
 pub struct ProduceResponse {
     pub rows: Items<ProduceResponseRow>,
@@ -176,7 +176,7 @@ impl Laid for ProduceResponse {
     ghost laid = { produce_response_laid };
 }
 
-/// A topic.
+/// A topic (`TopicProduceResponse`). `rows` is `partition_responses`.
 #[derive(Drop)]
 pub struct ProduceResponseRow {
     pub name: Text,
@@ -205,7 +205,8 @@ impl Laid for ProduceResponseRow {
     ghost laid = { produce_response_row_laid };
 }
 
-/// A partition, its code, and the offset of the first record.
+/// A partition, and the offset of the first record (`PartitionProduceResponse`). `partition` is `index`, `code` is
+/// `error_code`, `append_time` is `log_append_time_ms`.
 #[derive(Drop)]
 pub struct ProduceResponseRowRow {
     pub partition: i32,

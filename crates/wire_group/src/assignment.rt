@@ -9,7 +9,8 @@ use std::alloc::Global;
 use wire_layout::{Laid, WireNo, put_nullable_piece, read_nullable_piece, size_of_nullable_piece};
 use wire_prim::{Cursor, PrimNo};
 
-/// The partitions that a member is given. Its version is 0.
+/// The partitions that a member is given (`ConsumerProtocolAssignment`). Its version is 0. `rows` is
+/// `assigned_partitions`, `user` is `user_data`.
 #[derive(Drop)]
 pub struct Assignment {
     pub version: i16,
@@ -65,7 +66,7 @@ impl Laid for Assignment {
     ghost laid = { assignment_laid };
 }
 
-/// A topic and its partitions.
+/// A topic and its partitions (`TopicPartition`). `partition` is `partitions`.
 #[derive(Drop)]
 pub struct AssignmentRow {
     pub topic: Text,

@@ -8,7 +8,7 @@ use std::alloc::Global;
 use wire_layout::{Laid, WireNo, read_whole, write_whole};
 use wire_prim::{Cursor, PrimNo};
 
-/// Asks for the broker that coordinates a group.
+/// Asks for the broker that coordinates a group. `group` is `key`.
 #[derive(Drop)]
 pub struct FindCoordinatorRequest {
     pub group: Text,
@@ -50,7 +50,7 @@ impl Laid for FindCoordinatorRequest {
     ghost laid = { find_coordinator_request_laid };
 }
 
-/// The broker that coordinates a group.
+/// The broker that coordinates a group. `code` is `error_code`, `node` is `node_id`.
 #[derive(Drop)]
 pub struct FindCoordinatorResponse {
     pub code: i16,

@@ -8,7 +8,7 @@ use std::alloc::Global;
 use wire_layout::{Laid, WireNo, read_whole, write_whole};
 use wire_prim::{Cursor, PrimNo};
 
-/// A member's sign of life.
+/// A member's sign of life: `group_id`, `generation_id` and `member_id`.
 #[derive(Drop)]
 pub struct HeartbeatRequest {
     pub group: Text,
@@ -63,7 +63,7 @@ impl Laid for HeartbeatRequest {
     ghost laid = { heartbeat_request_laid };
 }
 
-/// Whether the member still belongs to its group.
+/// Whether the member still belongs to its group. `code` is `error_code`.
 #[derive(Drop)]
 pub struct HeartbeatResponse {
     pub code: i16,

@@ -8,7 +8,8 @@ use std::alloc::Global;
 use wire_layout::{Laid, WireNo, put_piece, read_piece, read_whole, size_of_piece, write_whole};
 use wire_prim::{Cursor, PrimNo};
 
-/// A member joins a group. Times are in milliseconds.
+/// A member joins a group: `group_id`, `session_timeout_ms`, `rebalance_timeout_ms`, `member_id`, `protocol_type`, and
+/// `protocols` as `rows`. Times are in milliseconds.
 #[derive(Drop)]
 pub struct JoinGroupRequest {
     pub group: Text,
@@ -78,7 +79,7 @@ impl Laid for JoinGroupRequest {
     ghost laid = { join_group_request_laid };
 }
 
-/// A protocol that the member offers, with its `Subscription`.
+/// A protocol that the member offers, with its `Subscription` (`JoinGroupRequestProtocol`).
 #[derive(Drop)]
 pub struct JoinGroupRequestRow {
     pub name: Text,
@@ -109,7 +110,8 @@ impl Laid for JoinGroupRequestRow {
     ghost laid = { join_group_request_row_laid };
 }
 
-/// The generation that a member has joined.
+/// The generation that a member has joined: `throttle_time_ms`, `error_code`, `generation_id`, `protocol_name`, `leader`,
+/// `member_id`, and `members` as `rows`.
 #[derive(Drop)]
 pub struct JoinGroupResponse {
     pub throttle_ms: i32,
@@ -184,7 +186,7 @@ impl Laid for JoinGroupResponse {
     ghost laid = { join_group_response_laid };
 }
 
-/// A member, with its `Subscription`, for the leader.
+/// A member, with its `Subscription`, for the leader (`JoinGroupResponseMember`). `member` is `member_id`.
 #[derive(Drop)]
 pub struct JoinGroupResponseRow {
     pub member: Text,

@@ -8,7 +8,7 @@ use std::alloc::Global;
 use wire_layout::{Laid, WireNo, read_whole, write_whole};
 use wire_prim::{Cursor, PrimNo};
 
-/// A member leaves its group.
+/// A member leaves its group: `group_id` and `member_id`.
 #[derive(Drop)]
 pub struct LeaveGroupRequest {
     pub group: Text,
@@ -53,7 +53,7 @@ impl Laid for LeaveGroupRequest {
     ghost laid = { leave_group_request_laid };
 }
 
-/// Whether it left.
+/// Whether it left. `code` is `error_code`.
 #[derive(Drop)]
 pub struct LeaveGroupResponse {
     pub code: i16,

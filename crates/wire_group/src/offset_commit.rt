@@ -8,7 +8,8 @@ use std::alloc::Global;
 use wire_layout::{Laid, WireNo, read_whole, write_whole};
 use wire_prim::{Cursor, PrimNo};
 
-/// Keeps offsets for a group.
+/// Keeps offsets for a group: `group_id`, `generation_id`, `member_id`, `retention_time_ms` in milliseconds, and `topics` as
+/// `rows`.
 #[derive(Drop)]
 pub struct OffsetCommitRequest {
     pub group: Text,
@@ -73,7 +74,7 @@ impl Laid for OffsetCommitRequest {
     ghost laid = { offset_commit_request_laid };
 }
 
-/// A topic.
+/// A topic (`OffsetCommitRequestTopic`). `rows` is `partitions`.
 #[derive(Drop)]
 pub struct OffsetCommitRequestRow {
     pub name: Text,
@@ -102,7 +103,8 @@ impl Laid for OffsetCommitRequestRow {
     ghost laid = { offset_commit_request_row_laid };
 }
 
-/// A partition and its offset.
+/// A partition and its offset (`OffsetCommitRequestPartition`). `partition` is `partition_index`, `offset` is
+/// `committed_offset`, `metadata` is `committed_metadata`.
 #[derive(Drop)]
 pub struct OffsetCommitRequestRowRow {
     pub partition: i32,
@@ -141,7 +143,7 @@ impl Laid for OffsetCommitRequestRowRow {
     ghost laid = { offset_commit_request_row_row_laid };
 }
 
-/// Which offsets were kept.
+/// Which offsets were kept. `rows` is `topics`.
 #[derive(Drop)]
 pub struct OffsetCommitResponse {
     pub rows: Items<OffsetCommitResponseRow>,
@@ -183,7 +185,7 @@ impl Laid for OffsetCommitResponse {
     ghost laid = { offset_commit_response_laid };
 }
 
-/// A topic.
+/// A topic (`OffsetCommitResponseTopic`). `rows` is `partitions`.
 #[derive(Drop)]
 pub struct OffsetCommitResponseRow {
     pub name: Text,
@@ -212,7 +214,7 @@ impl Laid for OffsetCommitResponseRow {
     ghost laid = { offset_commit_response_row_laid };
 }
 
-/// A partition and its code.
+/// A partition and its code (`OffsetCommitResponsePartition`). `partition` is `partition_index`, `code` is `error_code`.
 #[derive(Drop)]
 pub struct OffsetCommitResponseRowRow {
     pub partition: i32,

@@ -8,7 +8,7 @@ use std::alloc::Global;
 use wire_layout::{Laid, WireNo, read_whole, write_whole};
 use wire_prim::{Cursor, PrimNo};
 
-/// Asks for the offsets that are kept for a group.
+/// Asks for the offsets that are kept for a group. `group` is `group_id`, `rows` is `topics`.
 #[derive(Drop)]
 pub struct OffsetFetchRequest {
     pub group: Text,
@@ -53,7 +53,7 @@ impl Laid for OffsetFetchRequest {
     ghost laid = { offset_fetch_request_laid };
 }
 
-/// A topic and its partitions.
+/// A topic and its partitions (`OffsetFetchRequestTopic`). `partition` is `partition_indexes`.
 #[derive(Drop)]
 pub struct OffsetFetchRequestRow {
     pub name: Text,
@@ -82,7 +82,7 @@ impl Laid for OffsetFetchRequestRow {
     ghost laid = { offset_fetch_request_row_laid };
 }
 
-/// The offsets that are kept.
+/// The offsets that are kept. `rows` is `topics`.
 #[derive(Drop)]
 pub struct OffsetFetchResponse {
     pub rows: Items<OffsetFetchResponseRow>,
@@ -124,7 +124,7 @@ impl Laid for OffsetFetchResponse {
     ghost laid = { offset_fetch_response_laid };
 }
 
-/// A topic.
+/// A topic (`OffsetFetchResponseTopic`). `rows` is `partitions`.
 #[derive(Drop)]
 pub struct OffsetFetchResponseRow {
     pub name: Text,
@@ -153,7 +153,8 @@ impl Laid for OffsetFetchResponseRow {
     ghost laid = { offset_fetch_response_row_laid };
 }
 
-/// A partition and its offset, -1 where none is kept.
+/// A partition and its offset, -1 where none is kept (`OffsetFetchResponsePartition`). `partition` is `partition_index`,
+/// `offset` is `committed_offset`, `code` is `error_code`.
 #[derive(Drop)]
 pub struct OffsetFetchResponseRowRow {
     pub partition: i32,

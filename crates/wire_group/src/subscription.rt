@@ -9,7 +9,8 @@ use std::alloc::Global;
 use wire_layout::{Laid, WireNo, put_nullable_piece, read_nullable_piece, size_of_nullable_piece};
 use wire_prim::{Cursor, PrimNo};
 
-/// The topics that a member asks for. Its version is 0.
+/// The topics that a member asks for (`ConsumerProtocolSubscription`). Its version is 0. `topic` is `topics`, `user` is
+/// `user_data`.
 #[derive(Drop)]
 pub struct Subscription {
     pub version: i16,

@@ -8,7 +8,8 @@ use std::alloc::Global;
 use wire_layout::{Laid, WireNo, put_piece, read_piece, read_whole, size_of_piece, write_whole};
 use wire_prim::{Cursor, PrimNo};
 
-/// A member asks for its share, and the leader gives out the shares.
+/// A member asks for its share, and the leader gives out the shares: `group_id`, `generation_id`, `member_id`, and
+/// `assignments` as `rows`.
 #[derive(Drop)]
 pub struct SyncGroupRequest {
     pub group: Text,
@@ -68,7 +69,7 @@ impl Laid for SyncGroupRequest {
     ghost laid = { sync_group_request_laid };
 }
 
-/// A member's share, an `Assignment`.
+/// A member's share, an `Assignment` (`SyncGroupRequestAssignment`). `member` is `member_id`.
 #[derive(Drop)]
 pub struct SyncGroupRequestRow {
     pub member: Text,
@@ -99,7 +100,7 @@ impl Laid for SyncGroupRequestRow {
     ghost laid = { sync_group_request_row_laid };
 }
 
-/// The member's share, an `Assignment`.
+/// The member's share, an `Assignment`. `code` is `error_code`.
 #[derive(Drop)]
 pub struct SyncGroupResponse {
     pub code: i16,
