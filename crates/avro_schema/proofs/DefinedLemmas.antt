@@ -3,7 +3,8 @@ use Rattle.std.proofs.Common.{◌≡◌, ℕ, List, [], ◌∷◌, ◌++◌, Boo
 use Rattle.std.specs.Prelude.{codes}
 use Rattle.json_span.specs.Json.{Members}
 use Rattle.avro_schema.specs.Names.{are_parts, is_definable}
-use Rattle.avro_schema.specs.Reading.{last_member, given_name, new_name, defined_name, next, reads, is_among, symbols_of, size_of, enum_read, fixed_read}
+use Rattle.avro_schema.specs.Reading.{given_name, new_name, defined_name, next, reads, is_among, symbols_of, size_of, enum_read, fixed_read}
+use Rattle.json_span.specs.Parts.{last_member}
 use Rattle.avro_schema.specs.Types.{enum_, fixed}
 use Rattle.avro_schema.specs.Building.{Why, names_of, FirstNamed}
 use Rattle.avro_schema.specs.declared.parts.Parts.{Parts}

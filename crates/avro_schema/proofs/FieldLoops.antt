@@ -10,7 +10,8 @@ use Rattle.json_span.specs.declared.tree.Tree.{Tree}
 use Rattle.avro_schema.specs.Types.{AvroType, Fields, Defined, null, no_fields, field, definitions, field_definitions}
 use Rattle.avro_schema.specs.Forms.{type_at, fields_at, types_of}
 use Rattle.avro_schema.specs.Reading.{Read, Outcome, Reader, FieldType, next, field_read, fields_read, fields_of}
-use Rattle.avro_schema.specs.Building.{names_of, IsBuilt, Grows, Why, MakesField, MakesFields, FieldsSoFar, behind_fields, in_front, names_of_fields, IsMember}
+use Rattle.avro_schema.specs.Building.{names_of, IsBuilt, Grows, Why, MakesField, MakesFields, FieldsSoFar, behind_fields, in_front, names_of_fields}
+use Rattle.json_span.specs.Parts.{IsMember}
 use Rattle.avro_schema.specs.declared.parts.Form.{Form}
 use Rattle.avro_schema.specs.declared.parts.Field.{Field}
 use Rattle.avro_schema.specs.declared.parts.Parts.{Parts}

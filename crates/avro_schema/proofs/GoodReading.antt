@@ -7,7 +7,8 @@ use Rattle.json_span.specs.Chars.{content}
 use Rattle.avro_schema.specs.Types as types
 use Rattle.avro_schema.specs.Types.{AvroType, Branches, Fields, no_branches, branch, no_fields, field, branch_name}
 use Rattle.avro_schema.specs.Names.{is_part, is_float, is_definable, namespace_of}
-use Rattle.avro_schema.specs.Reading.{Read, Outcome, Reader, FieldType, next, reads, is_among, later, last_member, known, full_name, type_by_name, given_name, new_name, defined_name, part_name, symbols_read, symbols_of, size_of, part_type, field_read, fields_read, fields_of, branch_read, branches_read, union_read, array_read, map_read, record_read, enum_read, fixed_read, object_by_word, object_read, one_level, no_level, reader}
+use Rattle.avro_schema.specs.Reading.{Read, Outcome, Reader, FieldType, next, reads, is_among, known, full_name, type_by_name, given_name, new_name, defined_name, part_name, symbols_read, symbols_of, size_of, part_type, field_read, fields_read, fields_of, branch_read, branches_read, union_read, array_read, map_read, record_read, enum_read, fixed_read, object_by_word, object_read, one_level, no_level, reader}
+use Rattle.json_span.specs.Parts.{later, last_member}
 use Rattle.avro_schema.specs.declared.error.SchemaNo.{SchemaNo}
 use Rattle.avro_schema.specs.declared.error.SchemaNo.TheVariants.{BadType, UnknownName, Redefined, BadName, Float}
 use Rattle.avro_schema.proofs.PlainNames.{same_bytes}

@@ -3,7 +3,6 @@ pub mod Found
 pub mod NameLists
 pub mod NameLemmas
 pub mod DefinitionLemmas
-pub mod MemberLemmas
 pub mod Growth
 pub mod NamedLemmas
 pub mod Outcomes

@@ -7,7 +7,8 @@ use Rattle.json_span.specs.declared.tree.Tree.{Tree}
 use Rattle.avro_schema.specs.Types as types
 use Rattle.avro_schema.specs.Types.{AvroType, Branches, Fields, definitions, branch_definitions, field_definitions}
 use Rattle.avro_schema.specs.Forms.{type_of, types_of, branches_at, fields_at, AreBefore}
-use Rattle.avro_schema.specs.Reading.{Outcome, Reader, reads, next, union_read, branches_read, record_read, last_member, defined_name, fields_of}
+use Rattle.avro_schema.specs.Reading.{Outcome, Reader, reads, next, union_read, branches_read, record_read, defined_name, fields_of}
+use Rattle.json_span.specs.Parts.{last_member}
 use Rattle.avro_schema.specs.Names.{namespace_of}
 use Rattle.avro_schema.specs.Building.{names_of, Tells, Why, MakesFields, NamesNew, Finishes, BranchesSoFar}
 use Rattle.avro_schema.specs.declared.parts.Form.{Form}

@@ -11,8 +11,9 @@ use Rattle.json_span.specs.declared.tree.Kind.TheVariants as kinds
 use Rattle.avro_schema.specs.Types as types
 use Rattle.avro_schema.specs.Types.{AvroType, Branches, Fields, definitions, branch_definitions, field_definitions}
 use Rattle.avro_schema.specs.Forms.{type_at, types_of}
-use Rattle.avro_schema.specs.Reading.{Outcome, Reader, reader, reads, no_level, one_level, type_by_name, union_read, object_read, object_by_word, record_read, enum_read, fixed_read, array_read, map_read, part_type, last_member}
-use Rattle.avro_schema.specs.Building.{names_of, Makes, Tells, Why, IsMember}
+use Rattle.avro_schema.specs.Reading.{Outcome, Reader, reader, reads, no_level, one_level, type_by_name, union_read, object_read, object_by_word, record_read, enum_read, fixed_read, array_read, map_read, part_type}
+use Rattle.json_span.specs.Parts.{last_member, IsMember}
+use Rattle.avro_schema.specs.Building.{names_of, Makes, Tells, Why}
 use Rattle.avro_schema.specs.declared.parts.Form.TheVariants.{Array, Map}
 use Rattle.avro_schema.specs.declared.parts.Parts.{Parts}
 use Rattle.avro_schema.specs.declared.error.SchemaNo.{SchemaNo}

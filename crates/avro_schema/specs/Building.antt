@@ -2,12 +2,12 @@
 use Rattle.std.specs.Prelude.{◌≡◌, ℕ, zero, suc, ◌<◌, List, [], ◌∷◌, ◌++◌, length, slice_get, All, Bool, true, false, cond, codes, bytes_eq, Option, Some, None, Result, Ok, Err, ◌⊎◌, ⊤}
 use Rattle.json_span.specs.Json.{Json, Items, Members, text, array, object}
 use Rattle.json_span.specs.Nodes.{Stands, StandForMembers, StandForItems}
-use Rattle.json_span.specs.Chars.{content}
+use Rattle.json_span.specs.Parts.{IsTextOf}
 use Rattle.std.specs.Borrow.{Bor}
 use Rattle.json_span.specs.declared.tree.Tree.{Tree}
 use Rattle.json_span.specs.declared.tree.Member.{Member}
 use Rattle.avro_schema.specs.Types.{AvroType, Branches, Fields, Defined, no_branches, branch, no_fields, field, branch_name, definitions, field_definitions, branch_definitions}
-use Rattle.avro_schema.specs.Reading.{Outcome, Reader, FieldType, is_among, later, last_member, symbols_read, fields_read, branches_read, short_enough, ReadsAs}
+use Rattle.avro_schema.specs.Reading.{Outcome, Reader, FieldType, is_among, symbols_read, fields_read, branches_read, short_enough, ReadsAs}
 use Rattle.avro_schema.specs.Canonical.{canonical_form}
 use Rattle.avro_schema.specs.Nodes.{SchemaValue}
 use Rattle.avro_schema.specs.Refusals.{Answers}
@@ -157,31 +157,6 @@ pub record NamesNew (o : Result (List ℕ) SchemaNo) (old new : Parts) (name : L
   pub definitions : new.definitions ≡ old.definitions ++ ((record { name = name; node = 0 }) ∷ [])
   pub nodes : new.nodes.items ≡ old.nodes.items
   pub parts : are_parts name ≡ true
-
--- the member that was looked for, and its node
-abbrev pub IsMember : Tree → Option Json → Option ℕ → Type 0
-IsMember tree None None = ⊤
-IsMember tree None (Some k) = ⊥
-IsMember tree (Some j) None = ⊥
-IsMember tree (Some j) (Some k) = Stands tree k j
-
--- of these members, whose last are still to be looked at, the last before them was found
-pub record FoundBefore (tree : Tree) (rest : List Member) (ms : Members) (key : List ℕ) (found : Option ℕ) : Type 0 where
-  pub left : Members
-  pub stand : StandForMembers tree rest left
-  pub so_far : Option Json
-  pub is : last_member key ms ≡ later (last_member key left) so_far
-  pub node : IsMember tree so_far found
-
--- the text of a value that is one
-abbrev pub IsTextOf : Json → Option (Bor (List ℕ)) → Type 0
-IsTextOf j None = (s : List ℕ) → j ≡ text s → ⊥
-IsTextOf j (Some t) = (s : List ℕ) × (j ≡ text s) × (t.now ≡ content s)
-
--- the items of a value that is an array
-abbrev pub IsListOf : Tree → Json → Option (Bor (List ℕ)) → Type 0
-IsListOf tree j None = (js : Items) → j ≡ array js → ⊥
-IsListOf tree j (Some t) = (js : Items) × (j ≡ array js) × StandForItems tree t.now js
 
 -- the value is an object
 abbrev pub IsObject : Json → Bool → Type 0

@@ -7,6 +7,7 @@ use Rattle.json_span.specs.Text.{IsText}
 use Rattle.json_span.specs.Refusals.{max_levels}
 use Rattle.json_span.specs.Number.{is_digit}
 use Rattle.json_span.specs.Integer.{decimal}
+use Rattle.json_span.specs.Parts.{last_member}
 use Rattle.avro_schema.specs.Types as types
 use Rattle.avro_schema.specs.Types.{AvroType, Branches, Fields, no_branches, branch, no_fields, field, branch_name}
 use Rattle.avro_schema.specs.Names.{is_part, is_float, is_definable, has_dot, in_namespace, namespace_of}
@@ -34,16 +35,6 @@ next (Err e) f = Err e
 abbrev pub is_among : List ℕ → List (List ℕ) → Bool
 is_among name [] = false
 is_among name (n ∷ names) = bytes_eq n name || is_among name names
-
--- the second, unless there is a first
-abbrev pub later : Option Json → Option Json → Option Json
-later (Some j) o = Some j
-later None o = o
-
--- the value of an object's last member of this name
-abbrev pub last_member : List ℕ → Members → Option Json
-last_member key no_members = None
-last_member key (member s j ms) = later (last_member key ms) (cond (bytes_eq (content s) key) (Some j) None)
 
 -- ---- names
 

@@ -2,13 +2,14 @@ ghost use Rattle.std.specs.Prelude.{◌≡◌, ◌<◌, ◌++◌, [], ◌∷◌,
 ghost use Rattle.json_span.specs.Json.{Json, Members, Items, object};
 ghost use Rattle.json_span.specs.Nodes.{Stands, StandForItems};
 ghost use Rattle.avro_schema.specs.Names.{are_parts};
-ghost use Rattle.avro_schema.specs.Reading.{is_among, last_member, type_by_name, known, full_name, given_name, defined_name, part_name, symbols_read, symbols_of, digits_size, size_of, enum_read, fixed_read};
-ghost use Rattle.avro_schema.specs.Building.{names_of, IsBuilt, IsMember, Tells, Gives, Why, NamesNew, primitive_form};
+ghost use Rattle.avro_schema.specs.Reading.{is_among, type_by_name, known, full_name, given_name, defined_name, part_name, symbols_read, symbols_of, digits_size, size_of, enum_read, fixed_read};
+ghost use Rattle.json_span.specs.Parts.{last_member, IsMember};
+ghost use Rattle.avro_schema.specs.Building.{names_of, IsBuilt, Tells, Gives, Why, NamesNew, primitive_form};
 ghost use Rattle.avro_schema.specs.Types.{branch_name};
 ghost use Rattle.avro_schema.specs.Forms.{type_at, types_of, EachBefore};
 
 use crate::error::SchemaNo;
-use crate::members::{items_at, member, member_text, text_at};
+use crate::members::member_text;
 use crate::name_list::NameList;
 use crate::names::{has_dot, in_namespace, is_definable, is_float, is_part};
 use crate::parts::{Form, Parts};
@@ -124,7 +125,7 @@ fn given_name(
     }
     match namespace {
         None => in_namespace(alloc, enclosing, given),
-        Some(node) => match text_at(tree, node) {
+        Some(node) => match tree.as_text(node) {
             Some(own) => in_namespace(alloc, own, given),
             None => Err(SchemaNo::BadType),
         },
@@ -152,8 +153,8 @@ pub(crate) fn defined_name(
         tree,
         canonical,
         enclosing,
-        member(tree, node, "name"),
-        member(tree, node, "namespace"),
+        tree.member(node, "name"),
+        tree.member(node, "namespace"),
     );
     match given {
         Ok(name) => match parts.definitions.find(name.as_str()) {
@@ -210,7 +211,7 @@ pub(crate) fn read_enum(
         → Tells (enum_read canonical (names_of parts.old) namespace.now ms) parts.old parts.new result }
 {
     match define(alloc, tree, canonical, namespace, node, parts) {
-        Ok((name, definition)) => match symbols_of(alloc, tree, member(tree, node, "symbols")) {
+        Ok((name, definition)) => match symbols_of(alloc, tree, tree.member(node, "symbols")) {
             Ok(symbols) => parts.finish(definition, Form::Enum(name, symbols)),
             Err(e) => Err(e),
         },
@@ -233,7 +234,7 @@ pub(crate) fn read_fixed(
         → Tells (fixed_read canonical (names_of parts.old) namespace.now ms) parts.old parts.new result }
 {
     match define(alloc, tree, canonical, namespace, node, parts) {
-        Ok((name, definition)) => match size_of(tree, member(tree, node, "size")) {
+        Ok((name, definition)) => match size_of(tree, tree.member(node, "size")) {
             Ok(size) => parts.finish(definition, Form::Fixed(name, size)),
             Err(e) => Err(e),
         },
@@ -296,7 +297,7 @@ fn symbols_of(alloc: Global, tree: &Tree, node: Option<u32>) -> Result<NameList,
     let Some(at) = node else {
         return Err(SchemaNo::BadType);
     };
-    let Some(items) = items_at(tree, at) else {
+    let Some(items) = tree.as_items(at) else {
         return Err(SchemaNo::BadType);
     };
     symbols(alloc, tree, items)

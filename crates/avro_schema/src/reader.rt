@@ -1,12 +1,13 @@
 ghost use Rattle.std.specs.Prelude.{◌≡◌, ◌<◌, length, All, Option, IfOk, IfErr, OnOk, codes};
 ghost use Rattle.json_span.specs.Json.{Json, Members, Items, object, array};
 ghost use Rattle.json_span.specs.Nodes.{Stands, StandForItems};
-ghost use Rattle.avro_schema.specs.Reading.{reader, last_member, object_read, object_by_word, record_read, part_type, fields_of, field_read, branch_read, union_read};
-ghost use Rattle.avro_schema.specs.Building.{names_of, IsBuilt, IsMember, Tells, Why, MakesField, MakesFields, MakesBranch, names_of_fields, names_of_branches};
+ghost use Rattle.avro_schema.specs.Reading.{reader, object_read, object_by_word, record_read, part_type, fields_of, field_read, branch_read, union_read};
+ghost use Rattle.json_span.specs.Parts.{last_member, IsMember};
+ghost use Rattle.avro_schema.specs.Building.{names_of, IsBuilt, Tells, Why, MakesField, MakesFields, MakesBranch, names_of_fields, names_of_branches};
 ghost use Rattle.avro_schema.specs.Forms.{types_of};
 
 use crate::error::SchemaNo;
-use crate::members::{is_object, items_at, member, text_at};
+use crate::members::is_object;
 use crate::name_list::NameList;
 use crate::named::{add_branch, define, part_name, read_enum, read_fixed, type_by_name};
 use crate::names::namespace_of;
@@ -158,10 +159,10 @@ fn read_object(
         → Tells (object_read canonical (reader canonical levels) in_union (names_of parts.old) namespace.now ms
         (last_member (codes "type") ms)) parts.old parts.new result }
 {
-    let Some(kind) = member(tree, node, "type") else {
+    let Some(kind) = tree.member(node, "type") else {
         return Err(SchemaNo::BadType);
     };
-    match text_at(tree, kind) {
+    match tree.as_text(kind) {
         Some(word) => read_by_word(alloc, tree, canonical, levels, namespace, node, word, parts),
         None => read_type(
             alloc, tree, canonical, levels, in_union, namespace, kind, parts,
@@ -200,7 +201,7 @@ fn read_by_word(
             canonical,
             levels,
             namespace,
-            member(tree, node, "items"),
+            tree.member(node, "items"),
             parts,
         ) {
             Ok(items) => parts.add(Form::Array(items)),
@@ -214,7 +215,7 @@ fn read_by_word(
             canonical,
             levels,
             namespace,
-            member(tree, node, "values"),
+            tree.member(node, "values"),
             parts,
         ) {
             Ok(values) => parts.add(Form::Map(values)),
@@ -275,7 +276,7 @@ fn read_record(
                 canonical,
                 levels,
                 within,
-                member(tree, node, "fields"),
+                tree.member(node, "fields"),
                 parts,
             ) {
                 Ok(fields) => parts.finish(definition, Form::Record(name, fields)),
@@ -308,7 +309,7 @@ fn read_fields(
     let Some(at) = node else {
         return Err(SchemaNo::BadType);
     };
-    let Some(items) = items_at(tree, at) else {
+    let Some(items) = tree.as_items(at) else {
         return Err(SchemaNo::BadType);
     };
     let mut fields = Vec::new(alloc);
@@ -358,7 +359,7 @@ fn read_field(
     if !is_object(tree, node) {
         return Err(SchemaNo::BadType);
     }
-    let name = match part_name(alloc, tree, member(tree, node, "name"), names) {
+    let name = match part_name(alloc, tree, tree.member(node, "name"), names) {
         Ok(name) => name,
         Err(e) => return Err(e),
     };
@@ -371,7 +372,7 @@ fn read_field(
         canonical,
         levels,
         namespace,
-        member(tree, node, "type"),
+        tree.member(node, "type"),
         parts,
     ) {
         Ok(node) => match fields.push(Field { name, node }) {

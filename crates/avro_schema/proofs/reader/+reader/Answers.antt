@@ -2,7 +2,8 @@ use Rattle.std.proofs.Common.{◌≡◌, ◌<◌, ◌++◌, [], ◌∷◌, ℕ, 
 use Rattle.std.specs.Prelude.{codes}
 use Rattle.std.proofs.Math.ListN.{drop_of_length-le}
 use Rattle.avro_schema.specs.Names.{namespace_of, are_parts}
-use Rattle.avro_schema.specs.Reading.{reader, last_member}
+use Rattle.avro_schema.specs.Reading.{reader}
+use Rattle.json_span.specs.Parts.{last_member}
 use Rattle.avro_schema.specs.Building.{names_of, names_of_fields, names_of_branches, FieldsSoFar, BranchesSoFar}
 use Rattle.avro_schema.specs.Forms.{types_of}
 use Rattle.avro_schema.specs.declared.parts.Form.TheVariants.{Union, Record}
@@ -55,36 +56,36 @@ read_by_word-returns-then-eq-2 t c = λ ms h.
     (reading.is_enum c.args.canonical (reader c.args.canonical c.args.levels) (names_of c.args.parts.now) c.args.namespace.now ms c.args.word.now (sym c.eq.ensures ∙ c.if-eq.false) (sym c.eq-2.ensures ∙ c.if-eq-2.true)) (c.read_enum.ensures ms h)
 
 pub read_by_word-read_part-requires : goal.read_by_word-read_part-requires
-read_by_word-read_part-requires t c = (omega (arith, c.requires.1.0), (c.requires.1.1.0, (last_member (codes "items") c.requires.1.1.1.0, c.member.ensures c.requires.1.1.1.0 c.requires.1.1.1.1)))
+read_by_word-read_part-requires t c = (omega (arith, c.requires.1.0), (c.requires.1.1.0, (last_member (codes "items") c.requires.1.1.1.0, c.member.ensures.value c.requires.1.1.1.0 c.requires.1.1.1.1)))
 
 pub read_by_word-returns-in-Ok : goal.read_by_word-returns-in-Ok
 read_by_word-returns-in-Ok t c = λ ms h.
     tells_along _ _ c.args.parts.now c.add.new.self c.add.result
     (reading.is_array c.args.canonical (reader c.args.canonical c.args.levels) (names_of c.args.parts.now) c.args.namespace.now ms c.args.word.now (sym c.eq.ensures ∙ c.if-eq.false) (sym c.eq-2.ensures ∙ c.if-eq-2.false) (sym c.eq-3.ensures ∙ c.if-eq-3.true))
     (reading.array_tells (reader c.args.canonical c.args.levels) c.args.namespace.now ms c.args.parts.now c.read_part.new.parts c.add.new.self c.in-Ok.items c.add.result
-    (c.in-Ok.ensures (last_member (codes "items") ms) (c.member.ensures ms h)) c.add.ensures.ok c.add.ensures.want c.add.ensures.definitions)
+    (c.in-Ok.ensures (last_member (codes "items") ms) (c.member.ensures.value ms h)) c.add.ensures.ok c.add.ensures.want c.add.ensures.definitions)
 
 pub read_by_word-returns-in-Err : goal.read_by_word-returns-in-Err
 read_by_word-returns-in-Err t c = λ ms h.
     why_along _ _ c.in-Err.e
     (reading.is_array c.args.canonical (reader c.args.canonical c.args.levels) (names_of c.args.parts.now) c.args.namespace.now ms c.args.word.now (sym c.eq.ensures ∙ c.if-eq.false) (sym c.eq-2.ensures ∙ c.if-eq-2.false) (sym c.eq-3.ensures ∙ c.if-eq-3.true))
-    (reading.array_why (reader c.args.canonical c.args.levels) (names_of c.args.parts.now) c.args.namespace.now ms c.in-Err.e (c.in-Err.ensures (last_member (codes "items") ms) (c.member.ensures ms h)))
+    (reading.array_why (reader c.args.canonical c.args.levels) (names_of c.args.parts.now) c.args.namespace.now ms c.in-Err.e (c.in-Err.ensures (last_member (codes "items") ms) (c.member.ensures.value ms h)))
 
 pub read_by_word-read_part-requires-then-eq-4 : goal.read_by_word-read_part-requires-then-eq-4
-read_by_word-read_part-requires-then-eq-4 t c = (omega (arith, c.requires.1.0), (c.requires.1.1.0, (last_member (codes "values") c.requires.1.1.1.0, c.member-then-eq-4.ensures c.requires.1.1.1.0 c.requires.1.1.1.1)))
+read_by_word-read_part-requires-then-eq-4 t c = (omega (arith, c.requires.1.0), (c.requires.1.1.0, (last_member (codes "values") c.requires.1.1.1.0, c.member-then-eq-4.ensures.value c.requires.1.1.1.0 c.requires.1.1.1.1)))
 
 pub read_by_word-returns-in-Ok-read_part : goal.read_by_word-returns-in-Ok-read_part
 read_by_word-returns-in-Ok-read_part t c = λ ms h.
     tells_along _ _ c.args.parts.now c.add-in-Ok-read_part.new.self c.add-in-Ok-read_part.result
     (reading.is_map c.args.canonical (reader c.args.canonical c.args.levels) (names_of c.args.parts.now) c.args.namespace.now ms c.args.word.now (sym c.eq.ensures ∙ c.if-eq.false) (sym c.eq-2.ensures ∙ c.if-eq-2.false) (sym c.eq-3.ensures ∙ c.if-eq-3.false) (sym c.eq-4.ensures ∙ c.if-eq-4.true))
     (reading.map_tells (reader c.args.canonical c.args.levels) c.args.namespace.now ms c.args.parts.now c.read_part-then-eq-4.new.parts c.add-in-Ok-read_part.new.self c.in-Ok-read_part.values c.add-in-Ok-read_part.result
-    (c.in-Ok-read_part.ensures (last_member (codes "values") ms) (c.member-then-eq-4.ensures ms h)) c.add-in-Ok-read_part.ensures.ok c.add-in-Ok-read_part.ensures.want c.add-in-Ok-read_part.ensures.definitions)
+    (c.in-Ok-read_part.ensures (last_member (codes "values") ms) (c.member-then-eq-4.ensures.value ms h)) c.add-in-Ok-read_part.ensures.ok c.add-in-Ok-read_part.ensures.want c.add-in-Ok-read_part.ensures.definitions)
 
 pub read_by_word-returns-in-Err-read_part : goal.read_by_word-returns-in-Err-read_part
 read_by_word-returns-in-Err-read_part t c = λ ms h.
     why_along _ _ c.in-Err-read_part.e
     (reading.is_map c.args.canonical (reader c.args.canonical c.args.levels) (names_of c.args.parts.now) c.args.namespace.now ms c.args.word.now (sym c.eq.ensures ∙ c.if-eq.false) (sym c.eq-2.ensures ∙ c.if-eq-2.false) (sym c.eq-3.ensures ∙ c.if-eq-3.false) (sym c.eq-4.ensures ∙ c.if-eq-4.true))
-    (reading.map_why (reader c.args.canonical c.args.levels) (names_of c.args.parts.now) c.args.namespace.now ms c.in-Err-read_part.e (c.in-Err-read_part.ensures (last_member (codes "values") ms) (c.member-then-eq-4.ensures ms h)))
+    (reading.map_why (reader c.args.canonical c.args.levels) (names_of c.args.parts.now) c.args.namespace.now ms c.in-Err-read_part.e (c.in-Err-read_part.ensures (last_member (codes "values") ms) (c.member-then-eq-4.ensures.value ms h)))
 
 pub read_by_word-returns-then-eq-5 : goal.read_by_word-returns-then-eq-5
 read_by_word-returns-then-eq-5 t c = λ ms h.
@@ -103,12 +104,12 @@ read_by_word-returns t c = λ ms h.
 pub read_field-part_name-requires : goal.read_field-part_name-requires
 read_field-part_name-requires t c =
     let o = reading.object_there c.args.tree.now c.args.node c.requires.1.1.1.0.0 c.requires.1.1.1.0.1 (c.if-not-is_object.ensures c.requires.1.1.1.0.0 c.requires.1.1.1.0.1) in
-    (last_member (codes "name") o.0, c.member.ensures o.0 o.1)
+    (last_member (codes "name") o.0, c.member.ensures.value o.0 o.1)
 
 pub read_field-read_part-requires : goal.read_field-read_part-requires
 read_field-read_part-requires t c =
     let o = reading.object_there c.args.tree.now c.args.node c.requires.1.1.1.0.0 c.requires.1.1.1.0.1 (c.if-not-is_object.ensures c.requires.1.1.1.0.0 c.requires.1.1.1.0.1) in
-    (omega (arith, c.requires.1.0), (c.requires.1.1.0, (last_member (codes "type") o.0, c.member-2.ensures o.0 o.1)))
+    (omega (arith, c.requires.1.0), (c.requires.1.1.0, (last_member (codes "type") o.0, c.member-2.ensures.value o.0 o.1)))
 
 pub read_field-returns-after-push-clause-names : goal.read_field-returns-after-push-clause-names
 read_field-returns-after-push-clause-names t c =
@@ -126,59 +127,59 @@ pub read_fields-loop-item-init : goal.read_fields-loop-item-init
 read_fields-loop-item-init t c = record {
   names = c.new-names.ensures ∙ ap names_of_fields (sym c.new-fields.ensures.items);
   so_far = λ js h.
-      let P : List Field → Type 0 = λ vs. FieldsSoFar c.args.tree.now (reader c.args.canonical c.args.levels) c.args.namespace.now js c.args.parts.now c.args.parts.now c.in-Some-items_at.items.now vs in
-      subst P (sym c.new-fields.ensures.items) (fields_first c.args.tree.now (reader c.args.canonical c.args.levels) c.args.namespace.now js c.args.parts.now c.in-Some-items_at.items.now h c.requires.1.1.0);
+      let P : List Field → Type 0 = λ vs. FieldsSoFar c.args.tree.now (reader c.args.canonical c.args.levels) c.args.namespace.now js c.args.parts.now c.args.parts.now c.in-Some-as_items.items.now vs in
+      subst P (sym c.new-fields.ensures.items) (fields_first c.args.tree.now (reader c.args.canonical c.args.levels) c.args.namespace.now js c.args.parts.now c.in-Some-as_items.items.now h c.requires.1.1.0);
 }
 
 pub read_fields-read_field-requires : goal.read_fields-read_field-requires
 read_fields-read_field-requires t c =
     let l = list_there c.args.tree.now c.requires.1.1.1.0 c.args.node c.in-Some.at c.in-Some.is c.requires.1.1.1.1 in
-    let i = c.in-Some-items_at.ensures l.j l.stands in
+    let i = c.in-Some-as_items.ensures.value l.j l.stands in
     let s = c.loop-item.invariant.so_far i.0 i.2 in
-    let n = next_item_at c.args.tree.now c.in-Some-items_at.items.now c.loop-item.item-index s.left c.loop-item-test.true s.stand in
+    let n = next_item_at c.args.tree.now c.in-Some-as_items.items.now c.loop-item.item-index s.left c.loop-item-test.true s.stand in
     (omega (arith, c.requires.1.0), (s.grows.built, ((n.j, n.stands), c.loop-item.invariant.names)))
 
 pub read_fields-returns-in-Err-clause-err : goal.read_fields-returns-in-Err-clause-err
 read_fields-returns-in-Err-clause-err t c = λ o h.
     let l = list_there c.args.tree.now o c.args.node c.in-Some.at c.in-Some.is h in
-    let i = c.in-Some-items_at.ensures l.j l.stands in
+    let i = c.in-Some-as_items.ensures.value l.j l.stands in
     let s = c.loop-item.invariant.so_far i.0 i.2 in
-    let n = next_item_at c.args.tree.now c.in-Some-items_at.items.now c.loop-item.item-index s.left c.loop-item-test.true s.stand in
+    let n = next_item_at c.args.tree.now c.in-Some-as_items.items.now c.loop-item.item-index s.left c.loop-item-test.true s.stand in
     why_along _ _ c.in-Err.e (fields_of_list (reader c.args.canonical c.args.levels) (names_of c.args.parts.now) c.args.namespace.now o l.j i.0 l.is i.1)
-    (fields_refused c.args.tree.now (reader c.args.canonical c.args.levels) c.args.namespace.now i.0 c.args.parts.now c.loop-item.parts c.in-Some-items_at.items.now c.loop-item.item-index c.loop-item.fields.items c.in-Err.e s n (c.in-Err.ensures.err n.j n.stands))
+    (fields_refused c.args.tree.now (reader c.args.canonical c.args.levels) c.args.namespace.now i.0 c.args.parts.now c.loop-item.parts c.in-Some-as_items.items.now c.loop-item.item-index c.loop-item.fields.items c.in-Err.e s n (c.in-Err.ensures.err n.j n.stands))
 
 pub read_fields-loop-item-preserved : goal.read_fields-loop-item-preserved
 read_fields-loop-item-preserved t c = record {
   names = c.in_default-read_field.ensures.names;
   so_far = λ js h.
       let s = c.loop-item.invariant.so_far js h in
-      let n = next_item_at c.args.tree.now c.in-Some-items_at.items.now c.loop-item.item-index s.left c.loop-item-test.true s.stand in
-      fields_more c.args.tree.now (reader c.args.canonical c.args.levels) c.args.namespace.now js c.args.parts.now c.loop-item.parts c.in-Some-items_at.items.now c.loop-item.item-index c.loop-item.fields.items
+      let n = next_item_at c.args.tree.now c.in-Some-as_items.items.now c.loop-item.item-index s.left c.loop-item-test.true s.stand in
+      fields_more c.args.tree.now (reader c.args.canonical c.args.levels) c.args.namespace.now js c.args.parts.now c.loop-item.parts c.in-Some-as_items.items.now c.loop-item.item-index c.loop-item.fields.items
       c.read_field.new.parts c.read_field.new.fields.items s n (c.in_default-read_field.ensures.ok n.j n.stands);
 }
 
 pub read_fields-returns-clause-ok : goal.read_fields-returns-clause-ok
 read_fields-returns-clause-ok t c = λ o h.
     let l = list_there c.args.tree.now o c.args.node c.in-Some.at c.in-Some.is h in
-    let i = c.in-Some-items_at.ensures l.j l.stands in
+    let i = c.in-Some-as_items.ensures.value l.j l.stands in
     fields_along _ _ c.args.parts.now c.loop-item.parts c.loop-item.fields.items (fields_of_list (reader c.args.canonical c.args.levels) (names_of c.args.parts.now) c.args.namespace.now o l.j i.0 l.is i.1)
-    (fields_done c.args.tree.now (reader c.args.canonical c.args.levels) c.args.namespace.now i.0 c.args.parts.now c.loop-item.parts _ c.loop-item.fields.items (drop_of_length-le c.in-Some-items_at.items.now c.loop-item-test.false) (c.loop-item.invariant.so_far i.0 i.2))
+    (fields_done c.args.tree.now (reader c.args.canonical c.args.levels) c.args.namespace.now i.0 c.args.parts.now c.loop-item.parts _ c.loop-item.fields.items (drop_of_length-le c.in-Some-as_items.items.now c.loop-item-test.false) (c.loop-item.invariant.so_far i.0 i.2))
 
 -- ---- objects
 
-pub read_object-text_at-requires : goal.read_object-text_at-requires
-read_object-text_at-requires t c = let m = reading.there c.args.tree.now (last_member (codes "type") c.requires.1.1.1.0) c.in-Some.kind (c.in-Some.ensures c.requires.1.1.1.0 c.requires.1.1.1.1) in (m.j, m.stands)
+pub read_object-as_text-requires : goal.read_object-as_text-requires
+read_object-as_text-requires t c = let m = reading.there c.args.tree.now (last_member (codes "type") c.requires.1.1.1.0) c.in-Some.kind (c.in-Some.ensures.value c.requires.1.1.1.0 c.requires.1.1.1.1) in (m.j, m.stands)
 
 pub read_object-read_type-requires : goal.read_object-read_type-requires
 read_object-read_type-requires t c =
-    let m = reading.there c.args.tree.now (last_member (codes "type") c.requires.1.1.1.0) c.in-Some.kind (c.in-Some.ensures c.requires.1.1.1.0 c.requires.1.1.1.1) in
+    let m = reading.there c.args.tree.now (last_member (codes "type") c.requires.1.1.1.0) c.in-Some.kind (c.in-Some.ensures.value c.requires.1.1.1.0 c.requires.1.1.1.1) in
     (omega (arith, c.requires.1.0), (c.requires.1.1.0, (m.j, m.stands)))
 
-pub read_object-returns-in-Some-text_at : goal.read_object-returns-in-Some-text_at
-read_object-returns-in-Some-text_at t c = λ ms h.
-    let m = reading.there c.args.tree.now (last_member (codes "type") ms) c.in-Some.kind (c.in-Some.ensures ms h) in
-    let is = c.in-Some-text_at.ensures m.j m.stands in
-    reading.object_word c.args.canonical (reader c.args.canonical c.args.levels) c.args.in_union c.args.namespace.now ms _ m.j is.0 c.in-Some-text_at.word.now c.args.parts.now c.read_by_word.new.parts c.read_by_word.result m.is is.1 is.2 (c.read_by_word.ensures ms h)
+pub read_object-returns-in-Some-as_text : goal.read_object-returns-in-Some-as_text
+read_object-returns-in-Some-as_text t c = λ ms h.
+    let m = reading.there c.args.tree.now (last_member (codes "type") ms) c.in-Some.kind (c.in-Some.ensures.value ms h) in
+    let is = c.in-Some-as_text.ensures m.j m.stands in
+    reading.object_word c.args.canonical (reader c.args.canonical c.args.levels) c.args.in_union c.args.namespace.now ms _ m.j is.0 c.in-Some-as_text.word.now c.args.parts.now c.read_by_word.new.parts c.read_by_word.result m.is is.1 is.2 (c.read_by_word.ensures ms h)
 
 -- ---- records
 
@@ -189,18 +190,18 @@ pub read_record-read_fields-requires : goal.read_record-read_fields-requires
 read_record-read_fields-requires t c =
     let n = c.in-Ok.ensures.ok c.requires.1.1.1.0 c.requires.1.1.1.1 in
     let built = named_built _ c.args.parts.now c.define.new.parts c.in-Ok.name c.in-Ok.definition c.requires.1.1.0 n in
-    (omega (arith, c.requires.1.0), (built, (last_member (codes "fields") c.requires.1.1.1.0, c.member.ensures c.requires.1.1.1.0 c.requires.1.1.1.1)))
+    (omega (arith, c.requires.1.0), (built, (last_member (codes "fields") c.requires.1.1.1.0, c.member.ensures.value c.requires.1.1.1.0 c.requires.1.1.1.1)))
 
 pub read_record-finish-requires : goal.read_record-finish-requires
 read_record-finish-requires t c =
     let n = c.in-Ok.ensures.ok c.requires.1.1.1.0 c.requires.1.1.1.1 in
-    let m = c.in-Ok-read_fields.ensures.ok (last_member (codes "fields") c.requires.1.1.1.0) (c.member.ensures c.requires.1.1.1.0 c.requires.1.1.1.1) in
+    let m = c.in-Ok-read_fields.ensures.ok (last_member (codes "fields") c.requires.1.1.1.0) (c.member.ensures.value c.requires.1.1.1.0 c.requires.1.1.1.1) in
     named_inside _ c.args.parts.now c.define.new.parts c.read_fields.new.parts c.in-Ok.name c.in-Ok.definition _ n m.grows
 
 pub read_record-returns-in-Ok-read_fields : goal.read_record-returns-in-Ok-read_fields
 read_record-returns-in-Ok-read_fields t c = λ ms h.
     let n = c.in-Ok.ensures.ok ms h in
-    let m = c.in-Ok-read_fields.ensures.ok (last_member (codes "fields") ms) (c.member.ensures ms h) in
+    let m = c.in-Ok-read_fields.ensures.ok (last_member (codes "fields") ms) (c.member.ensures.value ms h) in
     let inner : c.namespace_of-within.result.now ≡ namespace_of c.in-Ok.name = c.namespace_of-within.ensures ∙ ap namespace_of c.as_str.ensures in
     record_tells c.args.canonical (reader c.args.canonical c.args.levels) c.args.namespace.now ms c.args.parts.now c.define.new.parts c.in-Ok.name c.namespace_of-within.result.now c.in-Ok.definition n inner
     c.read_fields.new.parts c.finish.new.self c.in-Ok-read_fields.fields.items (Record c.in-Ok.name c.in-Ok-read_fields.fields) c.finish.result m (λ k a. a) (λ x e y. cc) (λ ts. refl) c.finish.ensures.ok c.finish.ensures.want
@@ -210,7 +211,7 @@ read_record-returns-in-Err-read_fields t c = λ ms h.
     let n = c.in-Ok.ensures.ok ms h in
     let inner : c.namespace_of-within.result.now ≡ namespace_of c.in-Ok.name = c.namespace_of-within.ensures ∙ ap namespace_of c.as_str.ensures in
     record_why c.args.canonical (reader c.args.canonical c.args.levels) c.args.namespace.now ms c.args.parts.now c.define.new.parts c.in-Ok.name c.namespace_of-within.result.now c.in-Ok.definition n inner c.in-Err-read_fields.e
-    (c.in-Err-read_fields.ensures.err (last_member (codes "fields") ms) (c.member.ensures ms h))
+    (c.in-Err-read_fields.ensures.err (last_member (codes "fields") ms) (c.member.ensures.value ms h))
 
 -- ---- values
 
