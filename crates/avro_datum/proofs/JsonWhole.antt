@@ -1,5 +1,5 @@
 -- From what reading and showing a datum answer, to the JSON values of data.
-use Rattle.std.proofs.Common.{◌≡◌, ℕ, List, Result, Ok, Err, sym, ◌∙◌, subst, inl, inr}
+use Rattle.std.proofs.Common.{◌≡◌, ◌++◌, [], ℕ, List, Result, Ok, Err, refl, sym, ap, ◌∙◌, subst, inl, inr}
 use Rattle.std.specs.Prelude.{IfOk, IfErr, MatchResult}
 use Rattle.json.specs.Token.{Token}
 use Rattle.json.specs.Print.{print}
@@ -50,6 +50,19 @@ pub text_all_again : {S : Type 0} (bytes : S → List ℕ) (whole : AvroType) (v
     → IfOk r (λ s. (ts : List Token) × (tokens_of whole v ≡ Ok ts) × (bytes s ≡ print ts)) → IfOk r (λ s. (j : Json) × IsText max_levels (bytes s) j × IsJson whole whole v j)
 text_all_again bytes whole v (Ok s) names typed is = text_again whole v (bytes s) names typed is
 text_all_again bytes whole v (Err e) names typed is = tt
+
+-- the answer of a text that was written behind nothing
+pub text_alone : {S : Type 0} (bytes : S → List ℕ) (front : List ℕ) (whole : AvroType) (v : Value) (r : Result S AvroNo) → front ≡ []
+    → IfOk r (λ s. (ts : List Token) × (tokens_of whole v ≡ Ok ts) × (bytes s ≡ front ++ print ts)) → IfOk r (λ s. (ts : List Token) × (tokens_of whole v ≡ Ok ts) × (bytes s ≡ print ts))
+text_alone bytes front whole v (Ok s) nothing (ts, is, shows) = (ts, is, shows ∙ ap (λ (f : List ℕ). f ++ print ts) nothing)
+text_alone bytes front whole v (Err e) nothing is = tt
+
+-- what stands behind the front is a JSON text of the value
+pub text_behind : {S : Type 0} (bytes : S → List ℕ) (front : List ℕ) (whole : AvroType) (v : Value) (r : Result S AvroNo) → HasNames whole → IfOk r (λ s. IsTyped v)
+    → IfOk r (λ s. (ts : List Token) × (tokens_of whole v ≡ Ok ts) × (bytes s ≡ front ++ print ts))
+    → IfOk r (λ s. (more : List ℕ) × (bytes s ≡ front ++ more) × (j : Json) × IsText max_levels more j × IsJson whole whole v j)
+text_behind bytes front whole v (Ok s) names typed (ts, is, shows) = let a = text_again whole v (print ts) names typed (ts, is, refl) in (print ts, shows, a.0, a.1, a.2)
+text_behind bytes front whole v (Err e) names typed is = tt
 
 pub text_only : {S : Type 0} (whole : AvroType) (v : Value) (r : Result S AvroNo) → IfErr r (λ e. Fails e (tokens_of whole v)) → (j : Json) → IsJson whole whole v j → IsSmall v → IfErr r (λ e. e ≡ Want)
 text_only whole v (Ok s) is j json small = tt

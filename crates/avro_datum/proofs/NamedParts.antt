@@ -12,7 +12,8 @@ use Rattle.json_span.specs.Json.{Json, Members}
 use Rattle.json_span.specs.Chars.{content}
 use Rattle.avro_datum.specs.Value.{Values, no_values, value}
 use Rattle.avro_datum.specs.Judging.{branch_at}
-use Rattle.avro_datum.specs.Encoding.{place_of, or_else, last_named, names_of, AreFields}
+use Rattle.json_span.specs.Parts.{last_member, later}
+use Rattle.avro_datum.specs.Encoding.{place_of, names_of, AreFields}
 
 same : (a b : List ℕ) → bytes_eq a b ≡ true → a ≡ b
 same a b h = (bytes_eq-Decides a b).0 h
@@ -65,19 +66,19 @@ branch_has_names (schema.branch t ts) (suc n) u h e = branch_has_names ts n u h.
 
 -- ---- members
 
-pub not_named : (name : List ℕ) (ms : Members) → is_among name (names_of ms) ≡ false → last_named name ms ≡ None
+pub not_named : (name : List ℕ) (ms : Members) → is_among name (names_of ms) ≡ false → last_member name ms ≡ None
 not_named name json.no_members h = refl
 not_named name (json.member s j ms) h =
-    ap (λ o. or_else o (cond (bytes_eq (content s) name) (Some j) None)) (not_named name ms (or_second _ _ h)) ∙ ap (λ t. cond t (Some j) None) (or_first _ _ h)
+    ap (λ o. later o (cond (bytes_eq (content s) name) (Some j) None)) (not_named name ms (or_second _ _ h)) ∙ ap (λ t. cond t (Some j) None) (or_first _ _ h)
 
 -- the first member, where no other has its name
-pub first_named : (name s : List ℕ) (j : Json) (ms : Members) → content s ≡ name → is_among name (names_of ms) ≡ false → last_named name (json.member s j ms) ≡ Some j
+pub first_named : (name s : List ℕ) (j : Json) (ms : Members) → content s ≡ name → is_among name (names_of ms) ≡ false → last_member name (json.member s j ms) ≡ Some j
 first_named name s j ms e h =
-    ap (λ o. or_else o (cond (bytes_eq (content s) name) (Some j) None)) (not_named name ms h) ∙ ap (λ t. cond t (Some j) None) (equal (content s) name e)
+    ap (λ o. later o (cond (bytes_eq (content s) name) (Some j) None)) (not_named name ms h) ∙ ap (λ t. cond t (Some j) None) (equal (content s) name e)
 
 -- a field's member is the last of its name behind another too
 pub fields_behind : (whole : AvroType) (ts : Fields) (vs : Values) (s : List ℕ) (j : Json) (ms : Members) → AreFields whole ts vs ms → AreFields whole ts vs (json.member s j ms)
 fields_behind whole ts no_values s j ms a = a
 fields_behind whole ts (value v vs) s j ms a =
-    let found : last_named a.0 (json.member s j ms) ≡ Some a.4 = ap (λ o. or_else o (cond (bytes_eq (content s) a.0) (Some j) None)) a.5 in
+    let found : last_member a.0 (json.member s j ms) ≡ Some a.4 = ap (λ o. later o (cond (bytes_eq (content s) a.0) (Some j) None)) a.5 in
     (a.0, a.1, a.2, a.3, a.4, found, a.6, fields_behind whole a.2 vs s j ms a.7)

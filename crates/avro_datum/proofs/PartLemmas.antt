@@ -27,9 +27,10 @@ use Rattle.avro_datum.specs.declared.json_pick.Part.{Part}
 use Rattle.avro_datum.specs.Steps.{◌>>=◌}
 use Rattle.avro_datum.specs.Judging.{is_null, branch_at}
 use Rattle.avro_datum.specs.Picks.{Picks}
-use Rattle.avro_datum.specs.Encoding.{place_of, branch_names, or_else, last_named, names_of, is_among, differ}
+use Rattle.json_span.specs.Parts.{last_member, later}
+use Rattle.avro_datum.specs.Encoding.{place_of, branch_names, names_of, is_among, differ}
 use Rattle.avro_datum.specs.Reading.{Labelled, also, found, agree, labelled, placed, branch_by, members_in, entries_in}
-use Rattle.avro_datum.specs.Parts.{names_in, last_in, IsPart, AreParts}
+use Rattle.avro_datum.specs.Parts.{names_in, or_else, last_in, IsPart, AreParts}
 use Rattle.avro_datum.proofs.NodeLemmas.{rest_is}
 use Rattle.avro_datum.proofs.PickLemmas.{branch_stands}
 
@@ -202,28 +203,28 @@ abbrev pub PicksValue : Tree → Option ℕ → Option Json → Type 0
 PicksValue t None o = o ≡ None
 PicksValue t (Some k) o = (j : Json) × (o ≡ Some j) × Stands t k j
 
-picks_or : (t : Tree) (o p : Option ℕ) (x y : Option Json) → PicksValue t o x → PicksValue t p y → PicksValue t (or_else o p) (or_else x y)
-picks_or t None p x y first second = subst (λ (z : Option Json). PicksValue t p (or_else z y)) (sym first) second
-picks_or t (Some k) p x y first second = (first.0, ap (λ (z : Option Json). or_else z y) first.1, first.2)
+picks_or : (t : Tree) (o p : Option ℕ) (x y : Option Json) → PicksValue t o x → PicksValue t p y → PicksValue t (or_else o p) (later x y)
+picks_or t None p x y first second = subst (λ (z : Option Json). PicksValue t p (later z y)) (sym first) second
+picks_or t (Some k) p x y first second = (first.0, ap (λ (z : Option Json). later z y) first.1, first.2)
 
 picks_one : (t : Tree) (k : ℕ) (j : Json) (b : Bool) → Stands t k j → PicksValue t (if b then Some k else None) (if b then Some j else None)
 picks_one t k j true stands = (j, refl, stands)
 picks_one t k j false stands = refl
 
-pub last_picks : (t : Tree) (name : List ℕ) (vs : List Member) (ms : Members) → StandForMembers t vs ms → PicksValue t (last_in name vs) (last_named name ms)
+pub last_picks : (t : Tree) (name : List ℕ) (vs : List Member) (ms : Members) → StandForMembers t vs ms → PicksValue t (last_in name vs) (last_member name ms)
 last_picks t name vs json.no_members is = subst (λ (xs : List Member). PicksValue t (last_in name xs) None) (sym is) refl
 last_picks t name vs (json.member s j ms) is =
-    subst (λ (xs : List Member). PicksValue t (last_in name xs) (last_named name (json.member s j ms))) (sym is.2)
-    (picks_or t (last_in name is.1) (if bytes_eq is.0.name name then Some is.0.node else None) (last_named name ms) (if bytes_eq (content s) name then Some j else None)
+    subst (λ (xs : List Member). PicksValue t (last_in name xs) (last_member name (json.member s j ms))) (sym is.2)
+    (picks_or t (last_in name is.1) (if bytes_eq is.0.name name then Some is.0.node else None) (last_member name ms) (if bytes_eq (content s) name then Some j else None)
     (last_picks t name is.1 ms is.6)
     (subst (λ (n : List ℕ). PicksValue t (if bytes_eq is.0.name name then Some is.0.node else None) (if bytes_eq n name then Some j else None)) is.3 (picks_one t is.0.node j (bytes_eq is.0.name name) is.5)))
 
 -- a name that is there, and one that isn't
-pub last_is : (t : Tree) (name : List ℕ) (vs : List Member) (ms : Members) (node : ℕ) → StandForMembers t vs ms → Some node ≡ last_in name vs → PicksValue t (Some node) (last_named name ms)
-last_is t name vs ms node stands at = subst (λ (o : Option ℕ). PicksValue t o (last_named name ms)) (sym at) (last_picks t name vs ms stands)
+pub last_is : (t : Tree) (name : List ℕ) (vs : List Member) (ms : Members) (node : ℕ) → StandForMembers t vs ms → Some node ≡ last_in name vs → PicksValue t (Some node) (last_member name ms)
+last_is t name vs ms node stands at = subst (λ (o : Option ℕ). PicksValue t o (last_member name ms)) (sym at) (last_picks t name vs ms stands)
 
-pub last_none : (t : Tree) (name : List ℕ) (vs : List Member) (ms : Members) → StandForMembers t vs ms → None ≡ last_in name vs → last_named name ms ≡ None
-last_none t name vs ms stands at = subst (λ (o : Option ℕ). PicksValue t o (last_named name ms)) (sym at) (last_picks t name vs ms stands)
+pub last_none : (t : Tree) (name : List ℕ) (vs : List Member) (ms : Members) → StandForMembers t vs ms → None ≡ last_in name vs → last_member name ms ≡ None
+last_none t name vs ms stands at = subst (λ (o : Option ℕ). PicksValue t o (last_member name ms)) (sym at) (last_picks t name vs ms stands)
 
 -- what was found in front
 abbrev pub behind : List Json → Option (List Json) → Option (List Json)
@@ -250,7 +251,7 @@ pub parts_begin : (s : SchemaValue) (t : Tree) (fs : List Field) (ms : Members) 
 parts_begin s t fs ms ts stands = record { more = ts; js = []; stands = stands; is = behind_none (found ts ms); goes = λ ps rest are. are }
 
 pub parts_go : (s : SchemaValue) (t : Tree) (left rest : List Field) (f : Field) (front : List Part) (p : Part) (ms : Members) (ts : Fields) → PartsLeft s t left front ms ts → left ≡ f ∷ rest
-    → p.place ≡ f.node → PicksValue t (Some p.node) (last_named f.name ms) → PartsLeft s t rest (front ++ p ∷ []) ms ts
+    → p.place ≡ f.node → PicksValue t (Some p.node) (last_member f.name ms) → PartsLeft s t rest (front ++ p ∷ []) ms ts
 parts_go s t left rest f front p ms ts so_far is placed picks = go so_far.more (subst (λ (l : List Field). StandForFields s l so_far.more) is so_far.stands) so_far.is so_far.goes
   where
     go : (more : Fields) → StandForFields s (f ∷ rest) more → behind so_far.js (found more ms) ≡ found ts ms
@@ -258,7 +259,7 @@ parts_go s t left rest f front p ms ts so_far is placed picks = go so_far.more (
     go schema.no_fields stands at goes = absurd stands
     go (schema.field name u more) stands at goes =
         let j = picks.0 in
-        let named : last_named name ms ≡ Some j = ap (λ (n : List ℕ). last_named n ms) (sym stands.0) ∙ picks.1 in
+        let named : last_member name ms ≡ Some j = ap (λ (n : List ℕ). last_member n ms) (sym stands.0) ∙ picks.1 in
         record {
           more = more;
           js = so_far.js ++ j ∷ [];
@@ -272,13 +273,13 @@ parts_go s t left rest f front p ms ts so_far is placed picks = go so_far.more (
         }
 
 pub parts_stop : (s : SchemaValue) (t : Tree) (left rest : List Field) (f : Field) (front : List Part) (ms : Members) (ts : Fields) → PartsLeft s t left front ms ts → left ≡ f ∷ rest
-    → last_named f.name ms ≡ None → found ts ms ≡ None
+    → last_member f.name ms ≡ None → found ts ms ≡ None
 parts_stop s t left rest f front ms ts so_far is none = go so_far.more (subst (λ (l : List Field). StandForFields s l so_far.more) is so_far.stands) so_far.is
   where
     go : (more : Fields) → StandForFields s (f ∷ rest) more → behind so_far.js (found more ms) ≡ found ts ms → found ts ms ≡ None
     go schema.no_fields stands at = absurd stands
     go (schema.field name u more) stands at =
-        let named : last_named name ms ≡ None = ap (λ (n : List ℕ). last_named n ms) (sym stands.0) ∙ none in
+        let named : last_member name ms ≡ None = ap (λ (n : List ℕ). last_member n ms) (sym stands.0) ∙ none in
         sym at ∙ ap (λ (o : Option Json). behind so_far.js (also o (found more ms))) named
 
 pub parts_done : (s : SchemaValue) (t : Tree) (left : List Field) (front : List Part) (ms : Members) (ts : Fields) → PartsLeft s t left front ms ts → left ≡ []

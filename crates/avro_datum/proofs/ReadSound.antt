@@ -15,7 +15,8 @@ use Rattle.avro_datum.specs.declared.error.AvroNo.TheVariants.{Mismatch, Range, 
 use Rattle.avro_datum.specs.Steps.{◌>>=◌}
 use Rattle.avro_datum.specs.Value.{Value, Entry, null, boolean, int, long, bytes, string, fixed, symbol, branch, fields, items, entries, values_of, entries_of, nodes, nodes_in, nodes_among, IsWithin, AreWithin, EntriesWithin, IsSmall, max_levels, max_nodes}
 use Rattle.avro_datum.specs.Judging.{is_null, branch_at, is_below}
-use Rattle.avro_datum.specs.Encoding.{place_of, branch_names, last_named, names_of, differ, IsPoints, IsLabelled, IsJson, AreFields, AreItems, AreEntries}
+use Rattle.json_span.specs.Parts.{last_member}
+use Rattle.avro_datum.specs.Encoding.{place_of, branch_names, names_of, differ, IsPoints, IsLabelled, IsJson, AreFields, AreItems, AreEntries}
 use Rattle.avro_datum.specs.Reading.{Read, Reader, is_whole, integer_in, integer_at, flag_at, text_at, points_of, points_at, sized, fixed_at, placed, symbol_at, items_in, members_in, entries_in, also, found, present, fields_in, Labelled, agree, labelled, branch_by, branch_in, items_at, entries_at, fields_at, leaf, giving, null_at, body_at, nests, node_at, too_deep, value_at, datum_at}
 use Rattle.avro_datum.proofs.StepLemmas.{bind_ok, ok_is, chosen_ok, chosen_else, chosen_then}
 
@@ -297,8 +298,8 @@ fields_sound b whole inner (schema.field name t ts) ms [] k vs n sound few there
 fields_sound b whole inner (schema.field name t ts) ms (j ∷ js) k vs n sound few there is =
     let a = bind_ok (inner t j k) (λ v. fields_at inner ts js v.1 >>= λ ws. Ok (v.0 ∷ ws.0, ws.1)) (vs, n) is in
     let c = bind_ok (fields_at inner ts js a.0.1) (λ ws. Ok (a.0.0 ∷ ws.0, ws.1)) (vs, n) a.2 in
-    let d = also_took (last_named name ms) (found ts ms) (j ∷ js) there in
-    let at : last_named name ms ≡ Some j = d.2 ∙ cc in
+    let d = also_took (last_member name ms) (found ts ms) (j ∷ js) there in
+    let at : last_member name ms ≡ Some j = d.2 ∙ cc in
     let rest : found ts ms ≡ Some js = d.3 ∙ cc in
     let first = sound t j k a.0.0 a.0.1 a.1 in
     let others = fields_sound b whole inner ts ms js a.0.1 c.0.0 c.0.1 sound first.few rest c.1 in

@@ -11,17 +11,9 @@ use Rattle.json_span.specs.Json as json
 use Rattle.json_span.specs.Json.{Json, Items, Members}
 use Rattle.json_span.specs.Chars.{content}
 use Rattle.json_span.specs.Integer.{integer_of}
+use Rattle.json_span.specs.Parts.{last_member}
 use Rattle.avro_datum.specs.Value.{Value, Values, Entries, null, boolean, int, long, bytes, string, fixed, symbol, branch, fields, items, entries, no_values, value, no_entries, entry}
 use Rattle.avro_datum.specs.Judging.{is_null, branch_at}
-
-abbrev pub or_else : {A : Type 0} → Option A → Option A → Option A
-or_else (Some x) other = Some x
-or_else None other = other
-
--- the value of the last member of this name
-abbrev pub last_named : List ℕ → Members → Option Json
-last_named name json.no_members = None
-last_named name (json.member s j ms) = or_else (last_named name ms) (if bytes_eq (content s) name then Some j else None)
 
 -- the names of members, without escapes
 abbrev pub names_of : Members → List (List ℕ)
@@ -70,7 +62,7 @@ abbrev mutual
   pub AreFields : AvroType → Fields → Values → Members → Type 0
   AreFields whole ts no_values ms = ts ≡ schema.no_fields
   AreFields whole ts (value v vs) ms = (name : List ℕ) × (t : AvroType) × (more : Fields) × (ts ≡ schema.field name t more)
-      × (j : Json) × (last_named name ms ≡ Some j) × IsJson whole t v j × AreFields whole more vs ms
+      × (j : Json) × (last_member name ms ≡ Some j) × IsJson whole t v j × AreFields whole more vs ms
 
   -- each item in order
   pub AreItems : AvroType → AvroType → Values → Items → Type 0

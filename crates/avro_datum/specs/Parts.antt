@@ -13,7 +13,6 @@ use Rattle.avro_datum.specs.declared.error.AvroNo.{AvroNo}
 use Rattle.avro_datum.specs.declared.json_pick.Part.{Part}
 use Rattle.avro_datum.specs.declared.json_pick.Choice.{Choice}
 use Rattle.avro_datum.specs.Steps.{Fails}
-use Rattle.avro_datum.specs.Encoding.{or_else}
 use Rattle.avro_datum.specs.Reading.{Labelled}
 
 -- the answer, seen by view, is what is read
@@ -30,6 +29,11 @@ Finds StandsFor (Err e) read = Fails e read
 abbrev pub names_in : List Member → List (List ℕ)
 names_in [] = []
 names_in (m ∷ ms) = m.name ∷ names_in ms
+
+-- the second, unless there is a first
+abbrev pub or_else : {A : Type 0} → Option A → Option A → Option A
+or_else (Some x) other = Some x
+or_else None other = other
 
 -- the node of the last member of this name
 abbrev pub last_in : List ℕ → List Member → Option ℕ

@@ -14,7 +14,8 @@ use Rattle.avro_datum.specs.declared.error.AvroNo.TheVariants.{Mismatch, Range, 
 use Rattle.avro_datum.specs.Steps.{◌>>=◌, Fails}
 use Rattle.avro_datum.specs.Value.{Value, Entry, null, boolean, int, long, bytes, string, fixed, symbol, branch, fields, items, entries, values_of, entries_of, max_levels, max_nodes}
 use Rattle.avro_datum.specs.Judging.{is_null, branch_at, is_below}
-use Rattle.avro_datum.specs.Encoding.{place_of, branch_names, last_named, names_of, differ}
+use Rattle.json_span.specs.Parts.{last_member}
+use Rattle.avro_datum.specs.Encoding.{place_of, branch_names, names_of, differ}
 
 -- what was read and the number of the node behind it, or why nothing was
 abbrev pub Read : Type 0 → Type 0
@@ -91,7 +92,7 @@ also None xs = None
 -- the last member of each field's name
 abbrev pub found : Fields → Members → Option (List Json)
 found schema.no_fields ms = Some []
-found (schema.field name t ts) ms = also (last_named name ms) (found ts ms)
+found (schema.field name t ts) ms = also (last_member name ms) (found ts ms)
 
 abbrev pub present : {A : Type 0} → ℕ → Option A → Result A AvroNo
 present k None = Err (Mismatch k)

@@ -355,15 +355,15 @@ fn put_node(
     }
 }
 
-/// The datum's tokens as a text.
+/// The datum's tokens behind a text.
 #[tactic(auto, unfolding(crate::specs::Shown::tokens_of))]
-fn write_all(alloc: Global, schema: &Schema, datum: &Datum) -> Result<String, AvroNo>
+fn write_all(alloc: Global, front: String, schema: &Schema, datum: &Datum) -> Result<String, AvroNo>
     ensures value { IfOk result (λ s. (ts : List Token) × (tokens_of (tree_of schema.now) (value_of datum.now) ≡ Ok ts)
-        × (string_bytes s ≡ print ts)) }
+        × (string_bytes s ≡ string_bytes front ++ print ts)) }
     ensures typed { IfOk result (λ _. IsTyped (value_of datum.now)) }
     ensures refusal { IfErr result (λ e. Fails e (tokens_of (tree_of schema.now) (value_of datum.now))) }
 {
-    let mut out = Writer::new(Vec::new(alloc));
+    let mut out = Writer::new(front.into_bytes());
     match put_node(alloc, &mut out, schema, schema.root(), MAX_LEVELS, 0, datum) {
         Ok(_) => {
             let bytes = out.into_inner();
@@ -392,6 +392,25 @@ impl Datum {
         ensures refusal { IfErr result (λ e. Fails e (tokens_of (tree_of schema.now) (value_of self.now))) }
     {
         schema.names_differ();
-        write_all(alloc, schema, self)
+        write_all(alloc, String::new(alloc), schema, self)
+    }
+
+    /// Puts the datum as JSON behind a text, and gives the text back. With a refusal the text is dropped.
+    pub fn text_into(&self, alloc: Global, front: String, schema: &Schema) -> Result<String, AvroNo>
+        // Behind the text stands that of the datum's tokens.
+        ensures value { IfOk result (λ s. (ts : List Token) × (tokens_of (tree_of schema.now) (value_of self.now) ≡ Ok ts)
+            × (string_bytes s ≡ string_bytes front ++ print ts)) }
+        // What stands behind it is a JSON text of the datum.
+        ensures again { IfOk result (λ s. (bytes : List ℕ) × (string_bytes s ≡ string_bytes front ++ bytes)
+            × (j : Json) × IsText max_levels bytes j
+            × IsJson (tree_of schema.now) (tree_of schema.now) (value_of self.now) j) }
+        // A datum within the limits that has a JSON value is shown.
+        ensures only { (j : Json) → IsJson (tree_of schema.now) (tree_of schema.now) (value_of self.now) j
+            → IsSmall (value_of self.now) → IfErr result (λ e. e ≡ Want) }
+        // The refusal is that of the first node in preorder that isn't of its schema or passes a limit.
+        ensures refusal { IfErr result (λ e. Fails e (tokens_of (tree_of schema.now) (value_of self.now))) }
+    {
+        schema.names_differ();
+        write_all(alloc, front, schema, self)
     }
 }
