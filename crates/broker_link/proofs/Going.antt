@@ -1,11 +1,11 @@
 -- Calls one after another.
-use Rattle.std.proofs.Common.{◌≡◌, ◌∙◌, refl, arith}
+use Rattle.std.proofs.Common.{◌≡◌, ◌∙◌, ℕ, refl, subst, arith}
 use Rattle.model.specs.Log.{Log}
 use Rattle.model.specs.Fixed.{SameCommits}
 use Rattle.model.proofs.Stretches.{keeps_itself, keeps_on}
 use Rattle.broker_link.specs.Causes.{Counts}
 use Rattle.broker_link.specs.Replies.{CountsKept}
-use Rattle.broker_link.specs.Stands.{Goes, Stand}
+use Rattle.broker_link.specs.Stands.{Goes, IsOnceAtMost, Produces, Stand}
 
 counts_on : (c d e : Counts) → CountsKept c d → CountsKept d e → CountsKept c e
 counts_on c d e first second = record {
@@ -39,3 +39,7 @@ goes_nowhere a = record {
   alone = λ p. refl;
   counts = record { faults_kept = omega arith; refusals_kept = omega arith; sent_kept = omega arith; polls_kept = omega arith; beats_kept = omega arith };
 }
+
+-- calls that only read are no produce calls
+pub once_behind : (now : ℕ) (p q r : Produces) → q ≡ p → IsOnceAtMost now q r → IsOnceAtMost now p r
+once_behind now p q r same once = subst (λ (x : Produces). IsOnceAtMost now x r) same once

@@ -1,8 +1,9 @@
 -- What a link answers of stored rows, edges and committed offsets: Apache Kafka protocol guide, Fetch, ListOffsets and OffsetFetch.
 use mathlib.Core.List.{IsPrefix}
 use Rattle.std.specs.List.{AllZip}
-use Rattle.std.specs.Prelude.{ℕ, ℤ, pos, negsuc, nat_abs, ◌+◌, ◌<◌, ◌≤◌, ◌^◌, ◌≡◌, ◌⊎◌, true, false, List, [], map, length, All, AllPairs, Option, Some, None}
+use Rattle.std.specs.Prelude.{ℕ, ℤ, pos, negsuc, nat_abs, nat_le, nat_lt, ◌+◌, ◌<◌, ◌≤◌, ◌^◌, ◌≡◌, ◌⊎◌, ◌||◌, Bool, true, false, cond, List, [], ◌∷◌, ◌++◌, map, length, sum_by, All, AllPairs, Option, Some, None}
 use Rattle.model.specs.Log.{TopicPart, is_at, Row, Log, part_at, from}
+use Rattle.model.specs.Walk.{Place, size_of}
 use Rattle.model.specs.World.{Edge}
 use Rattle.model.specs.World.Edge.{Start, End}
 use Rattle.model.specs.Fixed.{HasPart, edge_of}
@@ -24,6 +25,10 @@ named_at topic partition = record { topic = topic; partition = nat_abs partition
 -- the partition that is asked for
 abbrev pub ask_at : FetchFrom → TopicPart
 ask_at ask = record { topic = ask.topic; partition = nat_abs ask.partition }
+
+-- the place that is asked from
+abbrev pub asked : FetchFrom → Place
+asked ask = record { at = ask_at ask; position = nat_abs ask.offset }
 
 -- a row as the log has it
 abbrev pub row_of : Stored → Row
@@ -63,6 +68,40 @@ pub record AreGot (log : Log) (asks : List FetchFrom) (fetched : List Fetched) :
   pub each : AllZip (IsGot log) asks fetched
   pub none : All (λ f. f.out_of_range ≡ false) fetched → All (λ f. f.rows ≡ []) fetched
       → All (λ ask. from log (ask_at ask) (nat_abs ask.offset) ≡ []) asks
+
+-- the rows that came of one ask
+abbrev pub rows_in : Fetched → List Row
+rows_in f = map row_of f.rows
+
+-- the rows of a partition from a position on; there are none where the position is below the start
+abbrev pub stored_from : Log → Place → List Row
+stored_from log place = cond (nat_lt place.position (part_at log place.at).start) [] (from log place.at place.position)
+
+-- the key and value bytes of rows
+abbrev pub bytes_in : List Row → ℕ
+bytes_in rows = sum_by size_of rows
+
+abbrev pub are_none : List Row → Bool
+are_none [] = true
+are_none (row ∷ rows) = false
+
+-- a row fits behind others: there are none, or all of them together have at most so many bytes
+abbrev pub fits : (most : ℕ) → (before : List Row) → Row → Bool
+fits most before row = are_none before || nat_le (bytes_in (before ++ row ∷ [])) most
+
+-- these rows up to the first that doesn't fit
+abbrev pub fitting : (most : ℕ) → (before rows : List Row) → List Row
+fitting most before [] = []
+fitting most before (row ∷ rows) = cond (fits most before row) (row ∷ fitting most (before ++ row ∷ []) rows) []
+
+-- of each place in turn the rows that fit behind all rows of the places before it
+abbrev pub rows_in_turn : (most : ℕ) → (before : List Row) → Log → List Place → List (List Row)
+rows_in_turn most before log [] = []
+rows_in_turn most before log (place ∷ places) = fitting most before (stored_from log place) ∷ rows_in_turn most (before ++ stored_from log place) log places
+
+-- The asks in turn were given their rows until one would bring the bytes of all above the bound; the first row of all always.
+abbrev pub AreInTurn : (most : ℕ) → Log → List FetchFrom → List Fetched → Type 0
+AreInTurn most log asks fetched = map rows_in fetched ≡ rows_in_turn most [] log (map asked asks)
 
 -- some asks, no partition twice
 pub record AreAsks (asks : List FetchFrom) : Type 0 where

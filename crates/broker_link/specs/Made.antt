@@ -2,6 +2,7 @@
 use Rattle.std.specs.Prelude.{◌≢◌, ◌<◌, ◌^◌, ℕ, pos, List, [], map, replicate, All, AllPairs, None}
 use Rattle.model.specs.Log.{Part, Topic, Log}
 use Rattle.broker_link.specs.Causes.{Counts}
+use Rattle.broker_link.specs.Stands.{Produces}
 
 abbrev pub empty_part : Part
 empty_part = record { start = 0; end = 0; rows = [] }
@@ -15,6 +16,9 @@ empty_log plans = record { topics = map empty_topic plans; committed = λ group 
 
 abbrev pub no_counts : Counts
 no_counts = record { faults = 0; refusals = 0; sent = 0; polls = 0; beats = 0; last_code = pos 0 }
+
+abbrev pub none_asked : Produces
+none_asked = record { calls = 0; moment = 0 }
 
 -- different topics, with partitions that an i32 can number
 pub record ArePlans (plans : List (List ℕ × ℕ)) : Type 0 where

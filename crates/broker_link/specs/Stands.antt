@@ -1,5 +1,5 @@
 -- How a link stands, and what a call of it leaves.
-use Rattle.std.specs.Prelude.{◌≡◌, Result, OnOk, IfErr}
+use Rattle.std.specs.Prelude.{ℕ, ◌≡◌, ◌⊎◌, ◌+◌, ◌-◌, ◌^◌, min, Result, OnOk, IfErr}
 use Rattle.gate_io.specs.Counts.{Rose}
 use Rattle.model.specs.Log.{Log, Keeps, IsLog}
 use Rattle.model.specs.Fixed.{SameCommits}
@@ -8,13 +8,28 @@ use Rattle.broker_link.specs.Causes.{Counts, ComesOf}
 use Rattle.broker_link.specs.Replies.{CountsKept}
 use Rattle.broker_link.specs.declared.link.LinkNo.{LinkNo}
 
+-- The produce calls that a link was asked: how many, up to 2^64 - 1, and the moment that the last of them was given.
+pub record Produces : Type 0 where
+  pub calls : ℕ
+  pub moment : ℕ
+
+-- one call more, which was given this moment
+pub record IsOneMore (now : ℕ) (p q : Produces) : Type 0 where
+  pub calls : q.calls ≡ min (p.calls + 1) (2 ^ 64 - 1)
+  pub moment : q.moment ≡ now
+
+-- no call more, or that one
+abbrev pub IsOnceAtMost : ℕ → Produces → Produces → Type 0
+IsOnceAtMost now p q = (q ≡ p) ⊎ IsOneMore now p q
+
 -- How a link stands: its log with the commits beside it, where it tells them; whether nothing but want of memory
--- and what the log lacks makes a call of it fail, and nobody else adds rows; and what it counts.
+-- and what the log lacks makes a call of it fail, and nobody else adds rows; what it counts, and which produce calls it was asked.
 pub record Stand : Type 1 where
   pub tells : Type 0
   pub plain : Type 0
   pub log : Log
   pub counts : Counts
+  pub produces : Produces
 
 -- A link went on from `a` to `b`.
 pub record Goes (a b : Stand) : Type 0 where
@@ -40,5 +55,6 @@ pub record Calls {T : Type 0} (a b : Stand) (result : Result T LinkNo) : Type 0 
 pub record Reads {T : Type 0} (a b : Stand) (result : Result T LinkNo) : Type 0 where
   pub goes : Goes a b
   pub none : a.tells → NoneAdded a.log b.log
+  pub asked : b.produces ≡ a.produces
   pub commits : a.tells → SameCommits a.log b.log
   pub answers : Answers a b result

@@ -4,8 +4,8 @@ ghost use Rattle.model.specs.Fixed.{HasPart};
 ghost use Rattle.broker_link.specs.Metadata.{IsMetadata};
 ghost use Rattle.broker_link.specs.Produced.{AreParts, IsAsked, IsPlaced, MayBePlaced, IsBased, IsPlainly, first_code};
 ghost use Rattle.broker_link.specs.Causes.{CodeComes};
-ghost use Rattle.broker_link.specs.Stands.{Stand, Calls, Reads};
-ghost use Rattle.broker_link.specs.Fetching.{AreAsks, AreGot, ArePartsOf, HaveAsked, IsCommittedAt, IsEdge, IsFetched, IsToldOffset, edge_view, named_at};
+ghost use Rattle.broker_link.specs.Stands.{Stand, Calls, IsOneMore, Reads};
+ghost use Rattle.broker_link.specs.Fetching.{AreAsks, AreGot, AreInTurn, ArePartsOf, HaveAsked, IsCommittedAt, IsEdge, IsFetched, IsToldOffset, edge_view, named_at};
 
 use crate::fetch::{Edge, FetchFrom, Fetched, TopicPart};
 use gate_io::{Items, Text};
@@ -106,6 +106,7 @@ pub trait Link {
     ) -> Result<Items<PartPlaced>, LinkNo>
         requires { AreParts parts.now }
         ensures goes { Calls (stand self.old) (stand self.new) result }
+        ensures asked { IsOneMore now (stand self.old).produces (stand self.new).produces }
         ensures placed { (stand self.old).tells → IfOk result (λ placed. IsPlaced (stand self.old).log (stand self.new).log topic.now parts.now placed) }
         ensures order { IfOk result (λ placed. AllZip IsAsked parts.now placed) }
         ensures based { IfOk result (λ placed. AllZip IsBased parts.now placed) }
@@ -115,7 +116,8 @@ pub trait Link {
         ensures lacked { (stand self.old).plain → (stand self.old).tells → IfOk result (λ placed. AllZip (IsPlainly (stand self.old).log topic.now) parts.now placed) };
 
     /// First rows of these partitions, each from its offset on, in the order asked. `max_bytes` says how
-    /// many key and value bytes are wanted at most.
+    /// many key and value bytes are wanted at most; a plain link gives the rows of the asks in turn until
+    /// one would bring them above it, and the first row always.
     fn fetch(
         &mut self,
         alloc: Global,
@@ -127,6 +129,7 @@ pub trait Link {
         ensures goes { Reads (stand self.old) (stand self.new) result }
         ensures fetched { IfOk result (λ fetched. AllZip IsFetched asks.now fetched) }
         ensures got { (stand self.old).tells → IfOk result (AreGot (stand self.new).log asks.now) }
+        ensures turn { (stand self.old).plain → (stand self.old).tells → IfOk result (AreInTurn max_bytes (stand self.new).log asks.now) }
         ensures plainly { (stand self.old).plain → (stand self.old).tells → HaveAsked (stand self.old).log asks.now → IfErr result (λ e. e ≡ Want) };
 
     /// The offset of a partition's first row, or the one behind its last.

@@ -1,10 +1,10 @@
 //! How a link in memory takes stored rows for a fetch.
 
-ghost use Rattle.std.specs.Prelude.{◌≡◌, ◌+◌, ◌<◌, ◌^◌, true, false, [], pos, nat_abs, drop, length, IfOk};
-ghost use Rattle.model.specs.Log.{from};
-ghost use Rattle.broker_link.specs.Fetching.{ask_at, IsFetched, IsGot};
+ghost use Rattle.std.specs.Prelude.{◌≡◌, ◌+◌, ◌<◌, ◌^◌, ◌||◌, true, [], not, pos, nat_abs, drop, length, is_some, IfOk};
+ghost use Rattle.model.specs.Walk.{length_of};
+ghost use Rattle.broker_link.specs.Fetching.{asked, IsFetched, IsGot, stored_from};
 ghost use Rattle.broker_link.specs.Produced.{numbered};
-ghost use Rattle.broker_link.specs.Reads.{AreRead, AreTaken, Begins, IsRead};
+ghost use Rattle.broker_link.specs.Reads.{AreRead, AreTaken, Fills, IsBound, IsRead, less};
 ghost use Rattle.broker_link.specs.Stored.{log_of};
 
 use crate::topics::{MemTopics, copied};
@@ -21,8 +21,8 @@ pub(crate) struct Bound {
 }
 
 impl Bound {
-    pub(crate) fn new(max_bytes: u32) -> Bound
-        ensures { result.begun ≡ false }
+    fn new(max_bytes: u32) -> Bound
+        ensures { IsBound max_bytes [] result }
     {
         Bound {
             left: Some(u64::from(max_bytes)),
@@ -32,7 +32,8 @@ impl Bound {
 
     /// A row of this size is to be taken.
     fn takes(&mut self, size: u64) -> bool
-        ensures first { self.old.begun ≡ false → result ≡ true }
+        ensures takes { result ≡ (not self.old.begun || is_some self.new.left) }
+        ensures left { self.new.left ≡ less size self.old.left }
         ensures begun { self.new.begun ≡ true }
     {
         let first = !self.begun;
@@ -45,16 +46,21 @@ impl Bound {
     }
 }
 
-fn length_of(bytes: &Option<Items<u8>>) -> u64 {
+fn len_of(bytes: &Option<Items<u8>>) -> u64
+    ensures value { result ≡ length_of bytes.now }
+    ensures bound { result < 2 ^ 63 }
+{
     match bytes {
+        Some(bytes) => bytes.as_slice().len() as u64,
         None => 0,
-        Some(items) => items.len() as u64,
     }
 }
 
 /// The key and value bytes of a record.
-fn size_of(one: &NewRecord) -> u64 {
-    length_of(&one.key).saturating_add(length_of(&one.value))
+fn size_of(one: &NewRecord) -> u64
+    ensures { result ≡ length_of one.now.key + length_of one.now.value }
+{
+    len_of(&one.key) + len_of(&one.value)
 }
 
 /// The row of a record at an offset.
@@ -82,7 +88,7 @@ fn take_rows(
 ) -> Result<Items<Stored>, AllocError>
     requires { base + length records.now < 2 ^ 63 }
     ensures taken { IfOk result (AreTaken base records.now) }
-    ensures begins { IfOk result (Begins bound.old.begun bound.new.begun (numbered base records.now)) }
+    ensures fills { IfOk result (Fills bound.old bound.new (numbered base records.now)) }
 {
     let mut rows = Items::new(alloc);
     for (i, one) in records.iter().enumerate() {
@@ -103,7 +109,7 @@ fn read(
 ) -> Result<Fetched, AllocError>
     requires { offset ≡ pos (nat_abs offset) }
     ensures is { IfOk result (IsRead records.now (nat_abs offset)) }
-    ensures begins { IfOk result (λ f. Begins bound.old.begun bound.new.begun (numbered (nat_abs offset) (drop (nat_abs offset) records.now)) f.rows) }
+    ensures fills { IfOk result (λ f. Fills bound.old bound.new (numbered (nat_abs offset) (drop (nat_abs offset) records.now)) f.rows) }
 {
     let end = records.len() as i64;
     let start = offset as usize;
@@ -131,7 +137,7 @@ fn read_one(
 ) -> Result<Fetched, AllocError>
     ensures fetched { IfOk result (IsFetched ask.now) }
     ensures got { IfOk result (IsGot (log_of topics.now.list.items) ask.now) }
-    ensures begins { IfOk result (λ f. Begins bound.old.begun bound.new.begun (from (log_of topics.now.list.items) (ask_at ask.now) (nat_abs ask.now.offset)) f.rows) }
+    ensures fills { IfOk result (λ f. Fills bound.old bound.new (stored_from (log_of topics.now.list.items) (asked ask.now)) f.rows) }
 {
     match topics.find(ask.topic.as_str(), ask.partition) {
         Some(records) => read(alloc, records, ask.offset, bound),
@@ -139,19 +145,20 @@ fn read_one(
     }
 }
 
-/// Reads what the asks name, one after the other.
+/// Reads what the asks name, one after the other, until a row would bring all their key and value
+/// bytes above the bound.
 pub(crate) fn read_all(
     alloc: Global,
     topics: &MemTopics,
     asks: &[FetchFrom],
-    bound: &mut Bound,
+    max_bytes: u32,
 ) -> Result<Items<Fetched>, AllocError>
-    requires { bound.old.begun ≡ false }
-    ensures { IfOk result (AreRead (log_of topics.now.list.items) bound.new.begun asks.now) }
+    ensures { IfOk result (AreRead (log_of topics.now.list.items) max_bytes asks.now) }
 {
+    let mut bound = Bound::new(max_bytes);
     let mut fetched = Items::new(alloc);
     for ask in asks {
-        fetched.push(read_one(alloc, topics, ask, bound)?)?;
+        fetched.push(read_one(alloc, topics, ask, &mut bound)?)?;
     }
     Ok(fetched)
 }

@@ -3,8 +3,9 @@
 ghost use Rattle.std.specs.Prelude.{◌≡◌, Option, None, IfErr, OnOk};
 ghost use Rattle.gate_io.specs.Counts.{Rose};
 ghost use Rattle.broker_link.specs.Causes.{CodeComes, ComesOf};
-ghost use Rattle.broker_link.specs.Made.{no_counts};
+ghost use Rattle.broker_link.specs.Made.{no_counts, none_asked};
 ghost use Rattle.broker_link.specs.Replies.{CountsKept};
+ghost use Rattle.broker_link.specs.Stands.{IsOneMore};
 ghost use Rattle.broker_link.specs.declared.link.LinkNo.TheVariants.{Refused};
 
 use crate::LinkNo;
@@ -81,5 +82,39 @@ impl Tally {
             Some(code) => Err(self.fail(code)),
             None => Ok(()),
         }
+    }
+}
+
+/// The produce calls that were asked, and the moment that the last of them was given.
+#[derive(Debug, Drop)]
+pub(crate) struct Asked {
+    calls: u64,
+    moment: u64,
+}
+
+impl Model for Asked {
+    ghost use Rattle.broker_link.specs.Stands.{Produces};
+
+    ghost Value = { Produces };
+
+    ghost view = { λ a. record { calls = a.calls; moment = a.moment } };
+}
+
+impl Asked {
+    pub(crate) fn new() -> Asked
+        ensures { result ≡ none_asked }
+    {
+        Asked {
+            calls: 0,
+            moment: 0,
+        }
+    }
+
+    /// Counts a produce call with its moment.
+    pub(crate) fn ask(&mut self, now: u64)
+        ensures { IsOneMore now self.old self.new }
+    {
+        self.calls = self.calls.saturating_add(1);
+        self.moment = now;
     }
 }
