@@ -5,7 +5,7 @@ ghost use Rattle.model.specs.Step.{ProduceEnds};
 ghost use Rattle.broker_link.specs.declared.link.LinkNo.TheVariants.{Want as LinkWant};
 ghost use Rattle.rest_calls.specs.Views.{batch_of, NamesPartition};
 ghost use Rattle.broker_link.specs.Replies.{IsCounted, IsGood, link_reply};
-ghost use Rattle.broker_link.specs.Stands.{Goes};
+ghost use Rattle.broker_link.specs.Stands.{Goes, IsOnceAtMost};
 ghost use Rattle.producer.specs.Replies.{refusal_reply, reply_of};
 
 use crate::Told;
@@ -40,8 +40,8 @@ fn failed(e: LinkNo) -> ProduceNo
     }
 }
 
-/// Stores the records of a request, with at most one produce call, and answers each in request order.
-/// Nothing is sent but metadata before the topic and each partition are known.
+/// Stores the records of a request, with at most one produce call, which is given `now`, and answers
+/// each in request order. Nothing is sent but metadata before the topic and each partition are known.
 #[tactic(auto, using(broker_link::proofs::Going::goes_on))]
 pub fn produce<L: Link>(
     alloc: Global,
@@ -58,6 +58,7 @@ pub fn produce<L: Link>(
     ensures apart { result ≢ Err (LinkFailed LinkWant) }
 
     ensures goes { Goes (L.stand link.old) (L.stand link.new) }
+    ensures asked { IsOnceAtMost now (L.stand link.old).produces (L.stand link.new).produces }
     ensures commits { (L.stand link.old).tells → SameCommits (L.stand link.old).log (L.stand link.new).log }
 
     ensures counts { IsCounted (L.stand link.old).counts (L.stand link.new).counts (reply_of result) }

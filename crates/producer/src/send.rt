@@ -4,7 +4,7 @@ ghost use Rattle.gate_io.specs.Counts.{Rose};
 ghost use Rattle.model.specs.Legal.{is_failed};
 ghost use Rattle.model.specs.Produced.{Answered, Unknown};
 ghost use Rattle.broker_link.specs.declared.link.LinkNo.TheVariants.{Want};
-ghost use Rattle.broker_link.specs.Stands.{Calls};
+ghost use Rattle.broker_link.specs.Stands.{Calls, IsOnceAtMost};
 ghost use Rattle.producer.specs.Grouped.{placed_of};
 ghost use Rattle.rest_calls.specs.Views.{NamesPartition};
 ghost use Rattle.producer.specs.Payloads.{number_in, payload_of};
@@ -40,6 +40,7 @@ pub(crate) fn store<L: Link>(
     requires few { length rows < 2 ^ 63 }
     requires named { All NamesPartition rows }
     ensures goes { Calls (L.stand link.old) (L.stand link.new) result }
+    ensures asked { IsOnceAtMost now (L.stand link.old).produces (L.stand link.new).produces }
     ensures answered { (L.stand link.old).tells → IfOk result (λ told. Answered (L.stand link.old).log (L.stand link.new).log topic.now (map payload_of rows) (map placed_of told)) }
     ensures unknown { (L.stand link.old).tells → OnErr result (Unknown (L.stand link.old).log (L.stand link.new).log topic.now (map payload_of rows)) }
     ensures whose { IfOk result (λ told. map (λ t. t.partition) told ≡ map number_in rows) }

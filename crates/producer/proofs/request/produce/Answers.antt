@@ -1,4 +1,5 @@
-use Rattle.std.proofs.Common.{◌≡◌, List, map, ap, sym, ◌∙◌, Some, true, false}
+use Rattle.std.proofs.Common.{◌≡◌, List, map, ap, sym, ◌∙◌, Some, true, false, inl}
+use Rattle.broker_link.proofs.Going.{once_behind}
 use Rattle.model.specs.Log.{Log}
 use Rattle.rest_calls.specs.declared.call.Row.{Row}
 use Rattle.model.specs.Produced.{Answered, Unknown}
@@ -71,3 +72,22 @@ returns-in-Err-store-clause-ends g c = λ tells is.
     c.in-Err-store.ensures.unknown told_still in
     ends_failed a m b c.args.topic.now c.args.batch c.in-Ok-Some.count ((g.L.Link.stand c.count_parts.new.link).counts) ((g.L.Link.stand c.store.new.link).counts) c.in-Err-store.e _ keeps (read.none tells) count inside
     c.requires.named unknown c.in-Err-store.ensures.goes.answers.cause c.failed-in-Err-store.ensures.reply
+
+pub returns-in-Ok-None-clause-asked : goal.returns-in-Ok-None-clause-asked
+returns-in-Ok-None-clause-asked g c = let read = c.count_parts.ensures.goes in inl read.asked
+
+pub returns-in-Err-clause-asked : goal.returns-in-Err-clause-asked
+returns-in-Err-clause-asked g c = let read = c.count_parts.ensures.goes in inl read.asked
+
+pub returns-then-not-are_within-clause-asked : goal.returns-then-not-are_within-clause-asked
+returns-then-not-are_within-clause-asked g c = let read = c.count_parts.ensures.goes in inl read.asked
+
+pub returns-in-Ok-clause-asked : goal.returns-in-Ok-clause-asked
+returns-in-Ok-clause-asked g c =
+    let read = c.count_parts.ensures.goes in
+    once_behind c.args.now (g.L.Link.stand c.args.link.now).produces (g.L.Link.stand c.count_parts.new.link).produces (g.L.Link.stand c.store.new.link).produces read.asked c.store.ensures.asked
+
+pub returns-in-Err-store-clause-asked : goal.returns-in-Err-store-clause-asked
+returns-in-Err-store-clause-asked g c =
+    let read = c.count_parts.ensures.goes in
+    once_behind c.args.now (g.L.Link.stand c.args.link.now).produces (g.L.Link.stand c.count_parts.new.link).produces (g.L.Link.stand c.store.new.link).produces read.asked c.store.ensures.asked

@@ -1,4 +1,4 @@
-use Rattle.std.proofs.Common.{◌≡◌, ◌∙◌, ℕ, List, [], map, arith, ap, sym, subst}
+use Rattle.std.proofs.Common.{◌≡◌, ◌∙◌, ℕ, List, [], map, arith, ap, sym, subst, refl, inl, inr}
 use Rattle.std.specs.List.{AllZip}
 use Rattle.model.specs.Log.{Log}
 use Rattle.model.specs.Entry.{Payload}
@@ -90,3 +90,18 @@ pub returns-clause-whose : goal.returns-clause-whose
 returns-clause-whose g c =
     let numbers : c.as_slice-2.result.now ≡ map number_in c.args.rows = c.as_slice-2.ensures.value ∙ c.in_ok-numbers.ensures in
     ap (λ (ts : List Told). map (λ (t : Told). t.partition) ts) c.in_ok-told.ensures ∙ (told_whose (map cursor_of c.as_slice-3.result.now) c.as_slice-2.result.now ∙ numbers)
+
+pub returns-in_err-numbers-clause-asked : goal.returns-in_err-numbers-clause-asked
+returns-in_err-numbers-clause-asked g c = inl refl
+
+pub returns-in_err-parts-clause-asked : goal.returns-in_err-parts-clause-asked
+returns-in_err-parts-clause-asked g c = inl refl
+
+pub returns-in_err-placed-clause-asked : goal.returns-in_err-placed-clause-asked
+returns-in_err-placed-clause-asked g c = inr c.produce.ensures.asked
+
+pub returns-in_err-told-clause-asked : goal.returns-in_err-told-clause-asked
+returns-in_err-told-clause-asked g c = inr c.produce.ensures.asked
+
+pub returns-clause-asked : goal.returns-clause-asked
+returns-clause-asked g c = inr c.produce.ensures.asked
