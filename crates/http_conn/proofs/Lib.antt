@@ -9,3 +9,4 @@ pub mod LawLemmas
 pub mod StreamLaw
 pub mod BeginLemmas
 pub mod PromptLemmas
+pub mod PatientLemmas

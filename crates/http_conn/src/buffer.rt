@@ -1,7 +1,7 @@
-ghost use Rattle.std.specs.Prelude.{◌≡◌, ◌≢◌, ◌<◌, ◌≤◌, ◌-◌, ◌++◌, ℕ, List, Ok, Err, Option, true, false, length, take, drop, IfOk, OnOk, OnErr};
+ghost use Rattle.std.specs.Prelude.{◌≡◌, ◌≢◌, ◌⊎◌, ◌<◌, ◌≤◌, ◌-◌, ◌++◌, ℕ, List, Ok, Err, Option, true, false, length, take, drop, IfOk, OnOk, OnErr};
 ghost use Rattle.std.specs.Io.KnownBytes.{IsAtEnd, Consumes, Keeps, ReadConsumes};
 ghost use Rattle.gate_io.specs.Counts.{Rose, HasCause};
-ghost use Rattle.http_conn.specs.Told.{StillComes};
+ghost use Rattle.http_conn.specs.Told.{StillComes, LastRead};
 
 use crate::ConnNo;
 use gate_io::{Failed, Source};
@@ -33,6 +33,7 @@ fn read_from<S: Source>(bytes: &mut [u8], place: usize, source: &mut S) -> Resul
     ensures front { take place bytes.new ≡ take place bytes.old }
     ensures bound { IfOk result (λ count. count ≤ length bytes.new - place) }
     ensures bytes { ReadConsumes (S.left source.old) (S.left source.new) result (drop place bytes.new) }
+    ensures asked { S.asked source.new ≡ S.left source.old }
     ensures cause { HasCause (S.faults source.old) (S.faults source.new) result }
     ensures beside { S.beside source.old source.new }
 {
@@ -49,6 +50,7 @@ fn read_behind<S: Source>(bytes: &mut Vec<u8>, source: &mut S) -> Result<bool, C
     ensures lost { result ≡ Err ConnNo.ReadFault → (bytes.new.items ≡ bytes.old.items)
         × Keeps (S.left source.old) (S.left source.new) }
     ensures kept { length bytes.old.items ≤ length bytes.new.items }
+    ensures asked { (source.new ≡ source.old) ⊎ (S.asked source.new ≡ S.left source.old) }
     ensures cause { result ≡ Err ConnNo.ReadFault
         → Rose (S.faults source.old) (S.faults source.new) }
     ensures no_write { (n : ℕ) → result ≢ Err (ConnNo.WriteFault n) }
@@ -141,6 +143,7 @@ impl Buffer {
         ensures end { result ≡ Ok false → (self.new ≡ self.old) × IsAtEnd (S.left source.new) }
         ensures lost { result ≡ Err ConnNo.ReadFault → (self.new ≡ self.old)
             × (StillComes self.old (S.left source.old) self.new (S.left source.new)) }
+        ensures patient { LastRead S.left S.asked self.old source.old source.new (λ held. held ≡ self.old) }
         ensures cause { result ≡ Err ConnNo.ReadFault
             → Rose (S.faults source.old) (S.faults source.new) }
         ensures no_write { (n : ℕ) → result ≢ Err (ConnNo.WriteFault n) }

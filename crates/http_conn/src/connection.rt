@@ -1,9 +1,10 @@
-ghost use Rattle.std.specs.Prelude.{◌≡◌, ◌<◌, ◌≤◌, ◌≢◌, ◌⊎◌, ◌++◌, [], ℕ, List, Option, Ok, Err, true, false, length, take, IfOk, OnOk, OnErr, IfErr, nat_lt, if◌then◌else◌};
+ghost use Rattle.std.specs.Prelude.{◌≡◌, ◌<◌, ◌≤◌, ◌≢◌, ◌⊎◌, ◌++◌, [], ℕ, List, Option, Ok, Err, true, false, length, take, drop, IfOk, OnOk, OnErr, IfErr, nat_lt, if◌then◌else◌};
 ghost use Rattle.std.specs.Io.KnownBytes.{IsAtEnd, Appends};
 ghost use Rattle.gate_io.specs.Counts.{Rose};
 ghost use Rattle.rest_codes.specs.Errors.{refusal_of};
-ghost use Rattle.http_conn.specs.Told.{Comes, StillComes};
-ghost use Rattle.http_conn.specs.Next.{Gives, IsWaiting, is_open};
+ghost use Rattle.std.specs.List.{list_any};
+ghost use Rattle.http_conn.specs.Told.{Comes, StillComes, LastRead};
+ghost use Rattle.http_conn.specs.Next.{Gives, IsWaiting, IsInLine, IsShort, NeedsMore, is_line_end, is_open};
 ghost use Rattle.http_conn.specs.Stream.{max_head, IsRequest};
 ghost use Rattle.http_conn.specs.declared.request.Request.{Request as RequestOf};
 ghost use Rattle.http_conn.specs.Parts.{max_spans};
@@ -94,8 +95,18 @@ fn broken(held: &[u8], headers: &mut [HeaderSpan], no: ConnNo) -> Result<Front, 
     }
 }
 
-fn has_line_end(bytes: &[u8]) -> bool {
+fn has_line_end(bytes: &[u8]) -> bool
+    ensures { result ≡ list_any is_line_end bytes.now }
+{
     bytes.contains(&b'\n')
+}
+
+/// A line ends behind the place.
+fn is_line_ended(held: &Buffer, place: usize) -> bool
+    requires { place ≤ length held.now }
+    ensures { result ≡ list_any is_line_end (drop place held.now) }
+{
+    has_line_end(&held.front()[place..])
 }
 
 /// Reads until a line ends in what is new, or the longest head is held. So a head that comes in
@@ -105,6 +116,7 @@ fn fill_line<S: Source>(held: &mut Buffer, source: &mut S) -> Result<bool, ConnN
     ensures same { OnOk result (StillComes held.old (S.left source.old) held.new (S.left source.new)) }
     ensures grew { result ≡ Ok true → length held.old < length held.new }
     ensures end { result ≡ Ok false → (held.new ≡ held.old) × IsAtEnd (S.left source.new) }
+    ensures patient { LastRead S.left S.asked held.old source.old source.new (IsInLine held.old) }
     ensures lost { result ≡ Err ConnNo.ReadFault → (length held.new < max_head)
         × (StillComes held.old (S.left source.old) held.new (S.left source.new)) }
     ensures cause { result ≡ Err ConnNo.ReadFault
@@ -119,7 +131,7 @@ fn fill_line<S: Source>(held: &mut Buffer, source: &mut S) -> Result<bool, ConnN
         if !held.fill(source)? {
             return Ok(seen > start);
         }
-        if has_line_end(&held.front()[seen..]) {
+        if is_line_ended(held, seen) {
             return Ok(true);
         }
         seen = held.len();
@@ -138,6 +150,7 @@ fn read_head<S: Source>(
     ensures front { IfOk result (λ front. FrontIs held.new headers.new (S.left source.new) front) }
     ensures prompt { (request : RequestOf) (rest : List ℕ) → IsRequest held.old request rest
         → (source.new ≡ source.old) × (held.new ≡ held.old) }
+    ensures patient { LastRead S.left S.asked held.old source.old source.new NeedsMore }
     ensures lost { result ≡ Err ConnNo.ReadFault → IsWaiting held.new
         × (StillComes held.old (S.left source.old) held.new (S.left source.new)) }
     ensures cause { result ≡ Err ConnNo.ReadFault
@@ -168,6 +181,7 @@ fn fill_to<S: Source>(held: &mut Buffer, total: usize, source: &mut S) -> Result
     ensures enough { result ≡ Ok true → total ≤ length held.new }
     ensures end { result ≡ Ok false → (length held.new < total) × IsAtEnd (S.left source.new) }
     ensures prompt { total ≤ length held.old → source.new ≡ source.old }
+    ensures patient { LastRead S.left S.asked held.old source.old source.new (IsShort held.old total) }
     ensures lost { result ≡ Err ConnNo.ReadFault → ((more : List ℕ)
         × (held.new ≡ held.old ++ more)) × (length held.new < total)
         × (StillComes held.old (S.left source.old) held.new (S.left source.new)) }
@@ -210,6 +224,7 @@ fn read_request<S: Source>(
     ensures interim { result ≢ Ok Next.Continue }
     ensures prompt { (request : RequestOf) (rest : List ℕ) → IsRequest held.old request rest
         → source.new ≡ source.old }
+    ensures patient { LastRead S.left S.asked held.old source.old source.new NeedsMore }
     ensures lost { result ≡ Err ConnNo.ReadFault → IsWaiting held.new
         × (StillComes held.old (S.left source.old) held.new (S.left source.new)) }
     ensures cause { result ≡ Err ConnNo.ReadFault
@@ -259,6 +274,9 @@ impl Connection {
         // A request that is held whole is given without a read.
         ensures prompt { self.old.over ≡ false → (request : RequestOf) (rest : List ℕ)
             → IsRequest self.old.held request rest → source.new ≡ source.old }
+        // Nothing is read once what is held is a request, or a bad place at the end of its line.
+        ensures patient { self.old.over ≡ false
+            → LastRead S.left S.asked self.old.held source.old source.new NeedsMore }
         ensures open { self.old.over ≡ false → IfOk result (λ next. is_open next ≡ true
             → self.new.over ≡ false) }
         ensures closed { IfOk result (λ next. is_open next ≡ false → self.new.over ≡ true) }

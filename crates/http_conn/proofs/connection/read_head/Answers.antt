@@ -1,6 +1,9 @@
-use Rattle.std.proofs.Common.{subst, List, ℕ}
+use Rattle.std.proofs.Common.{◌<◌, subst, List, ℕ, length, arith, refl, inl, inr}
 use Rattle.http_conn.specs.Front.{FrontIs}
-use Rattle.httparse.specs.Grammar.{HasNoRequest}
+use Rattle.httparse.specs.Grammar.{HasNoRequest, MayBecomeRequest}
+use Rattle.http_conn.specs.Stream.{max_head}
+use Rattle.http_conn.specs.Next.{IsWaiting, NeedsMore}
+use Rattle.http_conn.proofs.PatientLemmas.{never_read, head_read_on, unfinished_waits}
 use Rattle.http_conn.proofs.PromptLemmas.{prompt_same, prompt_lost}
 use Rattle.http_conn.proofs.connection.read_head.Goals as goal
 
@@ -27,3 +30,48 @@ pub returns-in-Err-clause-prompt : goal.returns-in-Err-clause-prompt
 returns-in-Err-clause-prompt g c = λ r rest is.
     let none : HasNoRequest c.loop-held.held = subst (λ (l : List ℕ). HasNoRequest l) c.front.ensures c.in-Unfinished.ensures.0 in
     absurd (prompt_lost c.args.held.now c.loop-held.held c.args.source.now c.loop-held.source c.loop-held.invariant.prompt none r rest is)
+
+pub loop-held-init : goal.loop-held-init
+loop-held-init g c = record {
+  same = λ all is. is;
+  patient = never_read g.S.Source.left g.S.Source.asked c.args.held.now c.args.source.now c.args.source.now NeedsMore refl;
+  prompt = inr (refl, refl);
+  faults = omega arith;
+  beside = g.met.S.Source.beside_same c.args.source.now;
+}
+
+pub loop-held-preserved : goal.loop-held-preserved
+loop-held-preserved g c =
+    let was = c.loop-held.invariant in
+    let read = c.in-Ok-true.ensures in
+    let none : HasNoRequest c.loop-held.held = subst (λ (l : List ℕ). HasNoRequest l) c.front.ensures c.in-Unfinished.ensures.0 in
+    let may : MayBecomeRequest c.loop-held.held = subst (λ (l : List ℕ). MayBecomeRequest l) c.front.ensures c.in-Unfinished.ensures.1 in
+    let short : length c.loop-held.held < max_head = omega arith in
+    let waits : IsWaiting c.loop-held.held = unfinished_waits c.loop-held.held none may short in
+    record {
+      same = λ all is. read.same all (was.same all is);
+      patient =
+          head_read_on g.S.Source.left g.S.Source.asked c.args.held.now c.loop-held.held c.args.source.now c.loop-held.source c.fill_line.new.source was.patient was.same c.fill_line.ensures.patient
+          waits;
+      prompt = inl (λ r rest is. prompt_lost c.args.held.now c.loop-held.held c.args.source.now c.loop-held.source was.prompt none r rest is);
+      faults = omega (arith, was.faults, read.counts);
+      beside = g.met.S.Source.beside_later c.args.source.now c.loop-held.source c.fill_line.new.source was.beside read.beside;
+    }
+
+pub returns-in-Ok-false-clause-patient : goal.returns-in-Ok-false-clause-patient
+returns-in-Ok-false-clause-patient g c =
+    let none : HasNoRequest c.loop-held.held = subst (λ (l : List ℕ). HasNoRequest l) c.front.ensures c.in-Unfinished.ensures.0 in
+    let may : MayBecomeRequest c.loop-held.held = subst (λ (l : List ℕ). MayBecomeRequest l) c.front.ensures c.in-Unfinished.ensures.1 in
+    let short : length c.loop-held.held < max_head = omega arith in
+    let waits : IsWaiting c.loop-held.held = unfinished_waits c.loop-held.held none may short in
+    head_read_on g.S.Source.left g.S.Source.asked c.args.held.now c.loop-held.held c.args.source.now c.loop-held.source c.fill_line.new.source
+    c.loop-held.invariant.patient c.loop-held.invariant.same c.fill_line.ensures.patient waits
+
+pub returns-in-Err-clause-patient : goal.returns-in-Err-clause-patient
+returns-in-Err-clause-patient g c =
+    let none : HasNoRequest c.loop-held.held = subst (λ (l : List ℕ). HasNoRequest l) c.front.ensures c.in-Unfinished.ensures.0 in
+    let may : MayBecomeRequest c.loop-held.held = subst (λ (l : List ℕ). MayBecomeRequest l) c.front.ensures c.in-Unfinished.ensures.1 in
+    let short : length c.loop-held.held < max_head = omega arith in
+    let waits : IsWaiting c.loop-held.held = unfinished_waits c.loop-held.held none may short in
+    head_read_on g.S.Source.left g.S.Source.asked c.args.held.now c.loop-held.held c.args.source.now c.loop-held.source c.fill_line.new.source
+    c.loop-held.invariant.patient c.loop-held.invariant.same c.fill_line.ensures.patient waits

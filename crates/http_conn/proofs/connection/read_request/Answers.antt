@@ -6,6 +6,7 @@ use Rattle.http_conn.specs.Front.{FrontIs}
 use Rattle.http_conn.specs.Parts.{IsHead}
 use Rattle.http_conn.proofs.FrontLemmas.{bad_given}
 use Rattle.http_conn.proofs.PromptLemmas.{whole_held}
+use Rattle.http_conn.proofs.PatientLemmas.{body_read_on}
 use Rattle.http_conn.proofs.StreamLemmas.{comes_split, comes_end, comes_cut, IsHead-behind, IsRequest-append, cut_in_body}
 use Rattle.http_conn.proofs.connection.read_request.Goals as goal
 
@@ -87,3 +88,31 @@ returns-clause-prompt g c = λ r rest is.
     let head : IsHead c.read_head.new.held headers c.in-Whole.head = subst (λ (f : Front). FrontIs c.read_head.new.held headers (g.S.Source.left c.read_head.new.source) f) c.in-Whole.is c.in_ok-head.ensures.front in
     let same = c.read_head.ensures.prompt r rest is in
     c.fill_to.ensures.prompt (whole_held c.read_head.new.held c.args.held.now headers c.in-Whole.head r rest head same.1 is) ∙ same.0
+
+pub returns-in_err-fill_to-clause-patient : goal.returns-in_err-fill_to-clause-patient
+returns-in_err-fill_to-clause-patient g c =
+    let headers = c.read_head.new.headers in
+    let head : IsHead c.read_head.new.held headers c.in-Whole.head = subst (λ (f : Front). FrontIs c.read_head.new.held headers (g.S.Source.left c.read_head.new.source) f) c.in-Whole.is c.in_ok-head.ensures.front in
+    body_read_on g.S.Source.left g.S.Source.asked c.args.held.now c.read_head.new.held headers c.in-Whole.head c.args.source.now c.read_head.new.source c.fill_to.new.source
+    c.read_head.ensures.patient c.in_ok-head.ensures.same head c.fill_to.ensures.patient
+
+pub returns-then-not-branch-clause-patient : goal.returns-then-not-branch-clause-patient
+returns-then-not-branch-clause-patient g c =
+    let headers = c.read_head.new.headers in
+    let head : IsHead c.read_head.new.held headers c.in-Whole.head = subst (λ (f : Front). FrontIs c.read_head.new.held headers (g.S.Source.left c.read_head.new.source) f) c.in-Whole.is c.in_ok-head.ensures.front in
+    body_read_on g.S.Source.left g.S.Source.asked c.args.held.now c.read_head.new.held headers c.in-Whole.head c.args.source.now c.read_head.new.source c.fill_to.new.source
+    c.read_head.ensures.patient c.in_ok-head.ensures.same head c.fill_to.ensures.patient
+
+pub returns-in_err-request-clause-patient : goal.returns-in_err-request-clause-patient
+returns-in_err-request-clause-patient g c =
+    let headers = c.read_head.new.headers in
+    let head : IsHead c.read_head.new.held headers c.in-Whole.head = subst (λ (f : Front). FrontIs c.read_head.new.held headers (g.S.Source.left c.read_head.new.source) f) c.in-Whole.is c.in_ok-head.ensures.front in
+    body_read_on g.S.Source.left g.S.Source.asked c.args.held.now c.read_head.new.held headers c.in-Whole.head c.args.source.now c.read_head.new.source c.fill_to.new.source
+    c.read_head.ensures.patient c.in_ok-head.ensures.same head c.fill_to.ensures.patient
+
+pub returns-clause-patient : goal.returns-clause-patient
+returns-clause-patient g c =
+    let headers = c.read_head.new.headers in
+    let head : IsHead c.read_head.new.held headers c.in-Whole.head = subst (λ (f : Front). FrontIs c.read_head.new.held headers (g.S.Source.left c.read_head.new.source) f) c.in-Whole.is c.in_ok-head.ensures.front in
+    body_read_on g.S.Source.left g.S.Source.asked c.args.held.now c.read_head.new.held headers c.in-Whole.head c.args.source.now c.read_head.new.source c.fill_to.new.source
+    c.read_head.ensures.patient c.in_ok-head.ensures.same head c.fill_to.ensures.patient
