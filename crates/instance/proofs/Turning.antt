@@ -2,15 +2,16 @@
 use Rattle.std.proofs.Common.{◌≡◌, ℕ, zero, suc, ◌+◌, ◌-◌, ◌<◌, ◌≤◌, List, [], ◌∷◌, ◌++◌, map, length, take, drop, slice_index_or, refl, ap, sym, subst, ◌∙◌, arith, length-append, inl, inr}
 use Rattle.std.specs.Prelude.{◌⊎◌, false}
 use Rattle.std.specs.List.{All, AllZip, RotatedLeft}
+use Rattle.std.proofs.Math.Seq.{drop-append_seam, take-append_seam}
 use Rattle.std.proofs.lemmas.List.{get_or-map, length-map, length-drop, map-append, take-append-drop, take-map}
 use Rattle.std.proofs.lemmas.List.Elements.{All-nil, All-cons, All-head, All-tail, All-append}
 use Rattle.model.specs.Log.{is_at, Log, from}
 use Rattle.model.specs.Walk.{Place, turned}
 use Rattle.model.specs.World.{IsInOrder}
-use Rattle.broker_link.specs.Fetching.{ask_at, AreAsks}
+use Rattle.broker_link.specs.Fetching.{ask_at, AreAsks, AreInTurn, rows_in, rows_in_turn}
 use Rattle.broker_link.specs.declared.fetch.FetchFrom.{FetchFrom}
 use Rattle.broker_link.specs.declared.fetch.Fetched.{Fetched}
-use Rattle.instance.specs.Gathering.{asked, GotFrom, IsGotAt}
+use Rattle.instance.specs.Gathering.{AreGiven, asked, GotFrom, IsGotAt}
 use Rattle.instance.proofs.Gathering.{before_is_other, after_is_other}
 
 pub length_turned : {A : Type 0} (k : ℕ) (xs : List A) → length (turned k xs) ≡ length xs
@@ -112,3 +113,26 @@ got_turned_back log places k m fetched got is = record {
       all_turned_back (λ (place : Place). from log place.at place.position ≡ []) k places
       (got.none (all_turned_back (λ (f : Fetched). f.out_of_range ≡ false) m fetched inside) (all_turned_back (λ (f : Fetched). f.rows ≡ []) m fetched empty));
 }
+
+-- a list that is cut in two, the other way round
+seam_turned : {A : Type 0} (k : ℕ) (xs ys : List A) → length xs ≡ k → turned k (xs ++ ys) ≡ ys ++ xs
+seam_turned k xs ys long = subst (λ n. turned n (xs ++ ys) ≡ ys ++ xs) long (ap (λ l. l ++ take (length xs) (xs ++ ys)) (drop-append_seam xs ys) ∙ ap (λ l. ys ++ l) (take-append_seam xs ys))
+
+turned_twice : {A : Type 0} (k m : ℕ) (xs : List A) → k ≤ length xs → m ≡ length xs - k → turned k (turned m xs) ≡ xs
+turned_twice k m xs within is = seam_turned k (drop m xs) (take m xs) (omega (arith, length-drop m xs, within, is)) ∙ take-append-drop m xs
+
+turned_none : {A : Type 0} (k : ℕ) → turned {A = A} k [] ≡ []
+turned_none zero = refl
+turned_none (suc k) = refl
+
+-- rows that were given in the turned order, turned back
+pub given_turned_back : (most : ℕ) (log : Log) (asks : List FetchFrom) (fetched : List Fetched) (places : List Place) (k m : ℕ) → map asked asks ≡ turned k places → AreInTurn most log asks fetched → k ≤ length fetched → m ≡ length fetched - k
+    → AreGiven most k log places (map rows_in (turned m fetched))
+given_turned_back most log asks fetched places k m are turn within is =
+    let n : length (map rows_in fetched) ≡ length fetched = length-map fetched rows_in in
+    ap (turned k) (map_turned rows_in m fetched) ∙ (turned_twice k m (map rows_in fetched) (omega (arith, n, within)) (omega (arith, n, is)) ∙ (turn ∙ ap (rows_in_turn most [] log) are))
+
+-- of no place nothing came
+pub given_none : (most k : ℕ) (log : Log) (places : List Place) (fetched : List Fetched) → places ≡ [] → fetched ≡ [] → AreGiven most k log places (map rows_in fetched)
+given_none most k log places fetched empty none =
+    ap (λ fs. turned k (map rows_in fs)) none ∙ (turned_none k ∙ sym (ap (λ ps. rows_in_turn most [] log (turned k ps)) empty ∙ ap (rows_in_turn most [] log) (turned_none k)))

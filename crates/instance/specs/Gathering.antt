@@ -2,22 +2,18 @@
 use mathlib.Core.List.{IsPrefix}
 use Rattle.std.specs.List.{AllZip}
 use Rattle.std.specs.Prelude.{ℕ, ℤ, ◌<◌, ◌≤◌, ◌≡◌, ◌⊎◌, ◌≤ℤ◌, ⊤, pos, nat_abs, is_some, true, false, List, [], ◌∷◌, map, All, Option, Some, None}
-use Rattle.model.specs.Log.{TopicPart, Log, IsLog, part_at, from}
-use Rattle.model.specs.Walk.{Place, Lot}
+use Rattle.model.specs.Log.{TopicPart, Row, Log, IsLog, part_at, from}
+use Rattle.model.specs.Walk.{Place, Lot, turned}
 use Rattle.model.specs.World.{Edge, with_positions}
 use Rattle.model.specs.Entry.Event.{Reset}
 use Rattle.model.specs.Fixed.{Edges, HasPart}
 use Rattle.model.specs.Look.{SetBack}
-use Rattle.broker_link.specs.Fetching.{IsEdge, ask_at, row_of}
-use Rattle.broker_link.specs.declared.fetch.FetchFrom.{FetchFrom}
+pub use Rattle.broker_link.specs.Fetching.{asked}
+use Rattle.broker_link.specs.Fetching.{IsEdge, row_of, rows_in_turn}
 use Rattle.broker_link.specs.declared.fetch.Fetched.{Fetched}
 use Rattle.instance.specs.declared.event.Event.{Event as CodeEvent}
 use Rattle.instance.specs.Ending.{own_of}
 use Rattle.instance.specs.Lots.{put_at}
-
--- the place that is asked from
-abbrev pub asked : FetchFrom → Place
-asked ask = record { at = ask_at ask; position = nat_abs ask.offset }
 
 -- the position lies from the start to the end of its partition
 abbrev pub IsInside : Log → Place → Type 0
@@ -44,6 +40,10 @@ pub record IsHand (log : Log) (places : List Place) (lots : List Lot) : Type 0 w
   pub first : All (λ lot. IsPrefix lot.rows (from log lot.place.at lot.place.position)) lots
   pub none : All (λ lot. lot.rows ≡ []) lots → All (λ place. from log place.at place.position ≡ []) places
   pub range : All (IsInside log) places
+
+-- Of each place these rows came. Beginning at number `first`, they are those of one fetch up to so many bytes, of the places in turn.
+abbrev pub AreGiven : (most first : ℕ) → Log → List Place → List (List Row) → Type 0
+AreGiven most first log places came = turned first came ≡ rows_in_turn most [] log (turned first places)
 
 -- the places that were told a new position, with it
 abbrev pub news_of : List Place → List (Option ℤ) → List Place

@@ -1,9 +1,10 @@
-ghost use Rattle.std.specs.Prelude.{◌≡◌, ◌<◌, ◌≤◌, ◌^◌, ◌-◌, ◌↔◌, false, All, IfOk, IfErr, IsTrue, List, length, map};
+ghost use Rattle.std.specs.Prelude.{◌≡◌, ◌<◌, ◌≤◌, ◌^◌, ◌-◌, ◌*◌, ◌↔◌, min, false, All, IfOk, IfErr, IsTrue, List, length, map};
 ghost use Rattle.model.specs.Walk.{turned};
 ghost use Rattle.model.specs.World.{IsInOrder};
 ghost use Rattle.broker_link.specs.Causes.{ComesOf};
+ghost use Rattle.broker_link.specs.Fetching.{rows_in};
 ghost use Rattle.broker_link.specs.declared.link.LinkNo.TheVariants.{Want};
-ghost use Rattle.instance.specs.Gathering.{GotFrom, HaveAll, asked};
+ghost use Rattle.instance.specs.Gathering.{AreGiven, GotFrom, HaveAll, asked};
 ghost use Rattle.instance.specs.Lots.{HasOffsets};
 ghost use Rattle.instance.specs.Passing.{Passes};
 ghost use Rattle.instance.specs.Views.{place_of};
@@ -40,7 +41,8 @@ fn asks_from(alloc: Global, places: &[Place]) -> Result<Vec<FetchFrom>, AllocErr
 /// As many bytes as a fetch for a reply of so many bytes asks for at most: twice as many, so that
 /// a row that doesn't fit into the reply any more comes as well.
 pub(crate) fn bytes_for(bound: u64) -> u32
-    ensures { result < 2 ^ 31 }
+    ensures value { result ≡ min (2 * bound) 1048576 }
+    ensures small { result < 2 ^ 31 }
 {
     if bound < u64::from(MOST_BYTES / 2) {
         2 * bound as u32
@@ -94,6 +96,7 @@ pub(crate) fn fetch_from<L: Link>(
     ensures same { IfOk result (λ fetched. length fetched ≡ length places.now) }
     ensures offsets { IfOk result (All HasOffsets) }
     ensures got { (L.stand link.old).tells → IfOk result (GotFrom (L.stand link.new).log (map place_of places.now)) }
+    ensures given { (L.stand link.old).plain → (L.stand link.old).tells → IfOk result (λ fetched. AreGiven most first (L.stand link.new).log (map place_of places.now) (map rows_in fetched)) }
     ensures good { (L.stand link.old).plain → (L.stand link.old).tells → HaveAll (L.stand link.old).log (map place_of places.now) → IfErr result (λ e. e ≡ Want) }
     ensures cause { IfErr result (ComesOf (L.stand link.old).counts (L.stand link.new).counts) }
 {

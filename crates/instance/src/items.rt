@@ -1,4 +1,4 @@
-ghost use Rattle.std.specs.Prelude.{◌≡◌, ◌++◌, ◌<◌, ◌^◌, List, [], cond, codes, length, map, nat_abs, string_bytes, All, IfOk, OnOk};
+ghost use Rattle.std.specs.Prelude.{◌≡◌, ◌++◌, ◌+◌, ◌-◌, ◌*◌, ◌/◌, ◌<◌, ◌^◌, min, List, [], cond, codes, length, map, nat_abs, string_bytes, All, IfOk, OnOk};
 ghost use Rattle.model.specs.Bodies.{array, item_text};
 ghost use Rattle.model.specs.World.Format.{Binary};
 ghost use Rattle.instance.specs.Acting.{forms};
@@ -110,7 +110,9 @@ fn put_comma(text: &mut String, first: bool) -> Result<(), AllocError>
 }
 
 /// Room for so many rows of so many key and value bytes.
-fn room_for(count: usize, bytes: u64) -> usize {
+fn room_for(count: usize, bytes: u64) -> usize
+    ensures { result ≡ min (count * 96 + bytes / 3 * 4) (2 ^ 64 - 1) }
+{
     let shown = (bytes / 3).saturating_mul(4) as usize;
     count.saturating_mul(ROW_ROOM).saturating_add(shown)
 }

@@ -1,4 +1,4 @@
-ghost use Rattle.std.specs.Prelude.{◌≡◌, ◌*◌, ◌≤◌, ◌^◌, None, ◌++◌, [], ◌∷◌, ◌<◌, All, IfOk, IfErr, OnErr, List, ℕ, length, map, option_map};
+ghost use Rattle.std.specs.Prelude.{◌≡◌, ◌*◌, ◌≤◌, ◌^◌, min, None, ◌++◌, [], ◌∷◌, ◌<◌, All, IfOk, IfErr, OnErr, List, ℕ, length, map, option_map};
 ghost use Rattle.model.specs.Log.{IsLog};
 ghost use Rattle.broker_link.specs.Stands.{Goes};
 ghost use Rattle.model.specs.World.{IsInOrder, IsLow, Key};
@@ -7,9 +7,9 @@ ghost use Rattle.model.specs.Events.{at_most};
 ghost use Rattle.model.specs.Fixed.{SameCommits};
 ghost use Rattle.model.specs.Noted.{EndsInLook};
 ghost use Rattle.broker_link.specs.Causes.{ComesOf};
-ghost use Rattle.broker_link.specs.Fetching.{edge_view};
+ghost use Rattle.broker_link.specs.Fetching.{edge_view, rows_in};
 ghost use Rattle.broker_link.specs.declared.link.LinkNo.TheVariants.{Want};
-ghost use Rattle.instance.specs.Gathering.{HaveAll, IsHand, SetsBack};
+ghost use Rattle.instance.specs.Gathering.{AreGiven, HaveAll, IsHand, SetsBack};
 ghost use Rattle.instance.specs.Passing.{Passes};
 ghost use Rattle.model.specs.Bodies.{array, item_text};
 ghost use Rattle.model.specs.Walk.{bytes_of, turned, unwalked, walk};
@@ -56,6 +56,7 @@ fn gather<L: Link>(
     ensures same { IfOk result (λ fetched. length fetched ≡ length places.new) }
     ensures offsets { IfOk result (All HasOffsets) }
     ensures hand { (L.stand link.old).tells → IsLog (L.stand link.old).log → IfOk result (λ fetched. IsHand (L.stand link.new).log (map place_of places.new) (lots_of places.new fetched)) }
+    ensures given { (L.stand link.old).plain → (L.stand link.old).tells → IfOk result (λ fetched. AreGiven most first (L.stand link.new).log (map place_of places.new) (map rows_in fetched)) }
     ensures sent { OnErr result (0 < length places.old) }
     ensures good { (L.stand link.old).plain → (L.stand link.old).tells → HaveAll (L.stand link.old).log (map place_of places.old) → IfErr result (λ e. e ≡ Want) }
     ensures cause { IfErr result (ComesOf (L.stand link.old).counts (L.stand link.new).counts) }
@@ -195,6 +196,7 @@ fn gather_for<L: Link>(
     ensures same { IfOk result (λ fetched. length fetched ≡ length consumer.new.assignment.items) }
     ensures offsets { IfOk result (All HasOffsets) }
     ensures hand { (L.stand link.old).tells → IsLog (L.stand link.old).log → IfOk result (λ fetched. IsHand (L.stand link.new).log (map place_of consumer.new.assignment.items) (lots_of consumer.new.assignment.items fetched)) }
+    ensures given { (L.stand link.old).plain → (L.stand link.old).tells → IfOk result (λ fetched. AreGiven (min (2 * bound) 1048576) consumer.old.rotation (L.stand link.new).log (map place_of consumer.new.assignment.items) (map rows_in fetched)) }
     ensures sent { OnErr result (0 < length consumer.old.assignment.items) }
     ensures good { (L.stand link.old).plain → (L.stand link.old).tells → HaveAll (L.stand link.old).log (map place_of consumer.old.assignment.items) → IfErr result (λ e. e ≡ Want) }
     ensures cause { IfErr result (ComesOf (L.stand link.old).counts (L.stand link.new).counts) }

@@ -1,4 +1,4 @@
-use Rattle.std.proofs.Common.{◌≡◌, ◌-◌, ℕ, List, map, length, ap, ◌∙◌, arith, subst, sym}
+use Rattle.std.proofs.Common.{◌≡◌, ◌-◌, ℕ, List, map, length, refl, ap, ◌∙◌, arith, subst, sym}
 use Rattle.std.specs.List.{All, AllZip, RotatedLeft}
 use Rattle.std.proofs.lemmas.Grind.{common_steps}
 use Rattle.std.proofs.lemmas.List.{length-map}
@@ -7,14 +7,14 @@ use Rattle.model.specs.Log.{Log}
 use Rattle.model.specs.Walk.{Place, turned}
 use Rattle.model.proofs.Walks.{All-turned}
 use Rattle.model.specs.Fixed.{HasPart}
-use Rattle.broker_link.specs.Fetching.{AreAsks, IsFetched}
+use Rattle.broker_link.specs.Fetching.{AreAsks, IsFetched, rows_in}
 use Rattle.broker_link.specs.declared.fetch.FetchFrom.{FetchFrom}
 use Rattle.broker_link.specs.declared.fetch.Fetched.{Fetched}
-use Rattle.instance.specs.Gathering.{asked, GotFrom}
+use Rattle.instance.specs.Gathering.{AreGiven, asked, GotFrom}
 use Rattle.instance.specs.Lots.{HasOffsets}
 use Rattle.instance.specs.Views.{place_of}
 use Rattle.instance.proofs.Gathering.{offsets_of, got_from, have_asked}
-use Rattle.instance.proofs.Turning.{turned_asks, asked_turned, got_turned_back, length_turned}
+use Rattle.instance.proofs.Turning.{turned_asks, asked_turned, given_turned_back, got_turned_back, length_turned}
 use Rattle.instance.proofs.fetching.fetch_from.Goals as goal
 
 pub fetch-requires-clause-asks : goal.fetch-requires-clause-asks
@@ -69,3 +69,15 @@ returns-clause-got g c = λ t.
     let got = got_from log c.as_slice.result.now fetched (turned c.args.first places) are (c.in-Ok.ensures.got t) in
     subst (GotFrom log places) (sym c.in_ok-turned_back.ensures)
     (got_turned_back log places c.args.first (length fetched - c.args.first) fetched got (ap (λ m. m - c.args.first) n))
+
+pub returns-clause-given : goal.returns-clause-given
+returns-clause-given g c = λ plain t.
+    let log : Log = (g.L.Link.stand c.fetch.new.self).log in
+    let is = c.as_slice.ensures.value ∙ c.rotate_left.ensures.items in
+    let places : List Place = map place_of c.args.places.now in
+    let fetched : List Fetched = c.in-Ok.fetched in
+    let n = as_many c.in_ok-asks.asks.items c.as_slice.result.now fetched places c.args.first c.in_ok-asks.ensures is c.in-Ok.ensures.fetched in
+    let are : map asked c.as_slice.result.now ≡ turned c.args.first places = ap (map asked) is ∙ asked_turned c.in_ok-asks.asks.items places c.args.first c.in_ok-asks.ensures in
+    subst (λ (fs : List Fetched). AreGiven c.args.most c.args.first log places (map rows_in fs)) (sym c.in_ok-turned_back.ensures)
+    (given_turned_back c.args.most log c.as_slice.result.now fetched places c.args.first (length fetched - c.args.first) are (c.in-Ok.ensures.turn plain t)
+    (omega (arith, c.requires.first, n, length-map c.args.places.now place_of)) refl)
