@@ -10,6 +10,8 @@ mod law;
 mod leaf;
 #[cfg(test)]
 mod tests;
+#[cfg(test)]
+mod told;
 
 pub use avro_datum::{AvroNo, Datum, MapItem};
 pub use decoder::decode;
