@@ -4,7 +4,7 @@ use Rattle.std.proofs.lemmas.List.{take_more}
 use Rattle.wire_prim.specs.Reading.{Reading, Takes}
 use Rattle.wire_data.specs.declared.metadata_response.MetadataResponse.{MetadataResponse}
 use Rattle.wire_data.specs.declared.metadata_response.MetadataResponseRow2.{MetadataResponseRow2}
-use Rattle.wire_layout.specs.Layout.{Layout, spelled, each, array}
+use Rattle.wire_layout.specs.Layout.{Layout, without_place, spelled, each, array}
 use Rattle.wire_layout.proofs.Loops.{spelled_more, each_more, taken_more, put_more, fits_more}
 use Rattle.wire_data.specs.MetadataResponse.{AreTold, IsTold, IsResponseRead, Spells, Topic, stored_topic, stored_response, stored_response_laid, topic_of, as_stored, is_set, flag_of, stored_of, response_of}
 use Rattle.wire_layout.specs.declared.error.WireNo.{WireNo}
@@ -87,7 +87,7 @@ told_read m start end told behind none =
     let empty = empty_is end.left none in
     record {
       value = record { stored = told.stored; is = told.is; bytes = told.takes.left ∙ ap (λ l. stored_response.spelling told.stored ++ l) empty ∙ append-nil (stored_response.spelling told.stored); fits = told.fits };
-      answer = behind ∙ ap (λ l. Ok l) empty;
+      answer = ap without_place behind ∙ ap (λ l. Ok l) empty;
       exact = λ other s.
           let same = (stored_response_laid.once told.stored s.stored end.left [] told.fits s.fits (sym told.takes.left ∙ s.bytes ∙ sym (append-nil (stored_response.spelling s.stored)))).0 in
           told.is ∙ ap response_of same ∙ sym s.is;

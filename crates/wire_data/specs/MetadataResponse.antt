@@ -7,7 +7,7 @@ use Rattle.wire_data.specs.declared.metadata.MetadataResponseRow2Row.{MetadataRe
 use Rattle.wire_data.specs.Metadata.{metadata_response_row, metadata_response_row_laid, metadata_response_row2_row, metadata_response_row2_row_laid}
 use Rattle.wire_prim.specs.Reading.{Reading, Takes}
 use Rattle.wire_layout.specs.declared.error.WireNo.{WireNo}
-use Rattle.wire_layout.specs.Layout.{Layout, field, ◌&◌, int8, int16, int32, string, array, spelled, each}
+use Rattle.wire_layout.specs.Layout.{Layout, without_place, field, ◌&◌, int8, int16, int32, string, array, spelled, each}
 use Rattle.wire_layout.specs.Laid.{IsLaid}
 use Rattle.wire_layout.specs.ItemLaws.{int8_laid, int16_laid, int32_laid, string_laid}
 use Rattle.wire_layout.specs.ArrayLaws.{array_laid}
@@ -104,5 +104,5 @@ pub record Spells (m : MetadataResponse) (whole : List ℕ) : Type 0 where
 -- the bytes spell what is read, and what they spell is read
 pub record IsResponseRead (whole : List ℕ) (result : Result MetadataResponse WireNo) : Type 0 where
   pub value : IfOk result (λ m. Spells m whole)
-  pub answer : Ends result (stored_response.behind whole)
+  pub answer : Ends result (without_place (stored_response.behind whole))
   pub exact : (m : MetadataResponse) → Spells m whole → IsOrWants result m

@@ -5,7 +5,7 @@ ghost use Rattle.wire_data.specs.ApiVersions.{api_versions_request, api_versions
 
 use gate_io::{Items, Want};
 use std::alloc::Global;
-use wire_layout::{Laid, WireNo, read_whole, write_whole};
+use wire_layout::{Laid, Message, Put, WireNo, read_whole, write_whole};
 use wire_prim::{Cursor, PrimNo};
 
 /// Asks which versions the broker knows. Its body is empty.
@@ -28,23 +28,23 @@ impl ApiVersionsRequest {
     }
 }
 
-impl Laid for ApiVersionsRequest {
+impl Put for ApiVersionsRequest {
     ghost layout = { api_versions_request };
-
-    fn size(&self) -> usize {
-        0
-    }
 
     fn put(&self, _out: &mut Vec<u8>) -> Result<(), Want> {
         Ok(())
     }
+}
 
+impl Laid for ApiVersionsRequest {
     fn read(_alloc: Global, _cursor: &mut Cursor) -> Result<ApiVersionsRequest, PrimNo> {
         Ok(ApiVersionsRequest {})
     }
 
     ghost laid = { api_versions_request_laid };
 }
+
+impl Message for ApiVersionsRequest {}
 
 /// The versions that the broker knows: `error_code`, and `api_keys` as `rows`.
 #[derive(Drop)]
@@ -69,19 +69,17 @@ impl ApiVersionsResponse {
     }
 }
 
-impl Laid for ApiVersionsResponse {
+impl Put for ApiVersionsResponse {
     ghost layout = { api_versions_response };
-
-    fn size(&self) -> usize {
-        self.code.size().saturating_add(self.rows.size())
-    }
 
     fn put(&self, out: &mut Vec<u8>) -> Result<(), Want> {
         self.code.put(out)?;
         self.rows.put(out)?;
         Ok(())
     }
+}
 
+impl Laid for ApiVersionsResponse {
     fn read(alloc: Global, cursor: &mut Cursor) -> Result<ApiVersionsResponse, PrimNo> {
         let code = i16::read(alloc, cursor)?;
         let rows = Items::read(alloc, cursor)?;
@@ -91,6 +89,8 @@ impl Laid for ApiVersionsResponse {
     ghost laid = { api_versions_response_laid };
 }
 
+impl Message for ApiVersionsResponse {}
+
 /// The lowest and highest version of a message (`ApiVersion`): `api_key`, `min_version`, `max_version`.
 #[derive(Drop)]
 pub struct ApiVersionsResponseRow {
@@ -99,15 +99,8 @@ pub struct ApiVersionsResponseRow {
     pub max: i16,
 }
 
-impl Laid for ApiVersionsResponseRow {
+impl Put for ApiVersionsResponseRow {
     ghost layout = { api_versions_response_row };
-
-    fn size(&self) -> usize {
-        self.key
-            .size()
-            .saturating_add(self.min.size())
-            .saturating_add(self.max.size())
-    }
 
     fn put(&self, out: &mut Vec<u8>) -> Result<(), Want> {
         self.key.put(out)?;
@@ -115,7 +108,9 @@ impl Laid for ApiVersionsResponseRow {
         self.max.put(out)?;
         Ok(())
     }
+}
 
+impl Laid for ApiVersionsResponseRow {
     fn read(alloc: Global, cursor: &mut Cursor) -> Result<ApiVersionsResponseRow, PrimNo> {
         let key = i16::read(alloc, cursor)?;
         let min = i16::read(alloc, cursor)?;

@@ -6,8 +6,7 @@ ghost use Rattle.wire_data.specs.Fetch.{fetch_request, fetch_request_laid, fetch
 use gate_io::{Items, Text, Want};
 use std::alloc::Global;
 use wire_layout::{
-    Laid, WireNo, put_nullable_piece, read_nullable_piece, read_whole, size_of_nullable_piece,
-    write_whole,
+    Laid, Message, Put, WireNo, put_nullable_piece, read_nullable_piece, read_whole, write_whole,
 };
 use wire_prim::{Cursor, PrimNo};
 
@@ -39,18 +38,8 @@ impl FetchRequest {
     }
 }
 
-impl Laid for FetchRequest {
+impl Put for FetchRequest {
     ghost layout = { fetch_request };
-
-    fn size(&self) -> usize {
-        self.replica
-            .size()
-            .saturating_add(self.max_wait_ms.size())
-            .saturating_add(self.min_bytes.size())
-            .saturating_add(self.max_bytes.size())
-            .saturating_add(self.isolation.size())
-            .saturating_add(self.rows.size())
-    }
 
     fn put(&self, out: &mut Vec<u8>) -> Result<(), Want> {
         self.replica.put(out)?;
@@ -61,7 +50,9 @@ impl Laid for FetchRequest {
         self.rows.put(out)?;
         Ok(())
     }
+}
 
+impl Laid for FetchRequest {
     fn read(alloc: Global, cursor: &mut Cursor) -> Result<FetchRequest, PrimNo> {
         let replica = i32::read(alloc, cursor)?;
         let max_wait_ms = i32::read(alloc, cursor)?;
@@ -82,6 +73,8 @@ impl Laid for FetchRequest {
     ghost laid = { fetch_request_laid };
 }
 
+impl Message for FetchRequest {}
+
 /// A topic (`FetchTopic`). `name` is `topic`, `rows` is `partitions`.
 #[derive(Drop)]
 pub struct FetchRequestRow {
@@ -89,19 +82,17 @@ pub struct FetchRequestRow {
     pub rows: Items<FetchRequestRowRow>,
 }
 
-impl Laid for FetchRequestRow {
+impl Put for FetchRequestRow {
     ghost layout = { fetch_request_row };
-
-    fn size(&self) -> usize {
-        self.name.size().saturating_add(self.rows.size())
-    }
 
     fn put(&self, out: &mut Vec<u8>) -> Result<(), Want> {
         self.name.put(out)?;
         self.rows.put(out)?;
         Ok(())
     }
+}
 
+impl Laid for FetchRequestRow {
     fn read(alloc: Global, cursor: &mut Cursor) -> Result<FetchRequestRow, PrimNo> {
         let name = Text::read(alloc, cursor)?;
         let rows = Items::read(alloc, cursor)?;
@@ -120,15 +111,8 @@ pub struct FetchRequestRowRow {
     pub max_bytes: i32,
 }
 
-impl Laid for FetchRequestRowRow {
+impl Put for FetchRequestRowRow {
     ghost layout = { fetch_request_row_row };
-
-    fn size(&self) -> usize {
-        self.partition
-            .size()
-            .saturating_add(self.offset.size())
-            .saturating_add(self.max_bytes.size())
-    }
 
     fn put(&self, out: &mut Vec<u8>) -> Result<(), Want> {
         self.partition.put(out)?;
@@ -136,7 +120,9 @@ impl Laid for FetchRequestRowRow {
         self.max_bytes.put(out)?;
         Ok(())
     }
+}
 
+impl Laid for FetchRequestRowRow {
     fn read(alloc: Global, cursor: &mut Cursor) -> Result<FetchRequestRowRow, PrimNo> {
         let partition = i32::read(alloc, cursor)?;
         let offset = i64::read(alloc, cursor)?;
@@ -174,19 +160,17 @@ impl FetchResponse {
     }
 }
 
-impl Laid for FetchResponse {
+impl Put for FetchResponse {
     ghost layout = { fetch_response };
-
-    fn size(&self) -> usize {
-        self.throttle_ms.size().saturating_add(self.rows.size())
-    }
 
     fn put(&self, out: &mut Vec<u8>) -> Result<(), Want> {
         self.throttle_ms.put(out)?;
         self.rows.put(out)?;
         Ok(())
     }
+}
 
+impl Laid for FetchResponse {
     fn read(alloc: Global, cursor: &mut Cursor) -> Result<FetchResponse, PrimNo> {
         let throttle_ms = i32::read(alloc, cursor)?;
         let rows = Items::read(alloc, cursor)?;
@@ -196,6 +180,8 @@ impl Laid for FetchResponse {
     ghost laid = { fetch_response_laid };
 }
 
+impl Message for FetchResponse {}
+
 /// A topic (`FetchableTopicResponse`). `name` is `topic`, `rows` is `partitions`.
 #[derive(Drop)]
 pub struct FetchResponseRow {
@@ -203,19 +189,17 @@ pub struct FetchResponseRow {
     pub rows: Items<FetchResponseRowRow>,
 }
 
-impl Laid for FetchResponseRow {
+impl Put for FetchResponseRow {
     ghost layout = { fetch_response_row };
-
-    fn size(&self) -> usize {
-        self.name.size().saturating_add(self.rows.size())
-    }
 
     fn put(&self, out: &mut Vec<u8>) -> Result<(), Want> {
         self.name.put(out)?;
         self.rows.put(out)?;
         Ok(())
     }
+}
 
+impl Laid for FetchResponseRow {
     fn read(alloc: Global, cursor: &mut Cursor) -> Result<FetchResponseRow, PrimNo> {
         let name = Text::read(alloc, cursor)?;
         let rows = Items::read(alloc, cursor)?;
@@ -237,18 +221,8 @@ pub struct FetchResponseRowRow {
     pub batches: Option<Items<u8>>,
 }
 
-impl Laid for FetchResponseRowRow {
+impl Put for FetchResponseRowRow {
     ghost layout = { fetch_response_row_row };
-
-    fn size(&self) -> usize {
-        self.partition
-            .size()
-            .saturating_add(self.code.size())
-            .saturating_add(self.high_watermark.size())
-            .saturating_add(self.stable_offset.size())
-            .saturating_add(self.rows.size())
-            .saturating_add(size_of_nullable_piece(&self.batches))
-    }
 
     fn put(&self, out: &mut Vec<u8>) -> Result<(), Want> {
         self.partition.put(out)?;
@@ -259,7 +233,9 @@ impl Laid for FetchResponseRowRow {
         put_nullable_piece(out, &self.batches)?;
         Ok(())
     }
+}
 
+impl Laid for FetchResponseRowRow {
     fn read(alloc: Global, cursor: &mut Cursor) -> Result<FetchResponseRowRow, PrimNo> {
         let partition = i32::read(alloc, cursor)?;
         let code = i16::read(alloc, cursor)?;
@@ -287,19 +263,17 @@ pub struct FetchResponseRowRowRow {
     pub first: i64,
 }
 
-impl Laid for FetchResponseRowRowRow {
+impl Put for FetchResponseRowRowRow {
     ghost layout = { fetch_response_row_row_row };
-
-    fn size(&self) -> usize {
-        self.producer.size().saturating_add(self.first.size())
-    }
 
     fn put(&self, out: &mut Vec<u8>) -> Result<(), Want> {
         self.producer.put(out)?;
         self.first.put(out)?;
         Ok(())
     }
+}
 
+impl Laid for FetchResponseRowRowRow {
     fn read(alloc: Global, cursor: &mut Cursor) -> Result<FetchResponseRowRowRow, PrimNo> {
         let producer = i64::read(alloc, cursor)?;
         let first = i64::read(alloc, cursor)?;

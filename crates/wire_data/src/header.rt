@@ -5,7 +5,7 @@ ghost use Rattle.wire_data.specs.Header.{request_header, request_header_laid, re
 
 use gate_io::{Text, Want};
 use std::alloc::Global;
-use wire_layout::{Laid, WireNo, read_front, write_whole};
+use wire_layout::{Laid, Message, Put, WireNo, read_front, write_whole};
 use wire_prim::{Cursor, PrimNo};
 
 /// What stands before a request's body (request header, version 1): `request_api_key`, `request_api_version`,
@@ -34,16 +34,8 @@ impl RequestHeader {
     }
 }
 
-impl Laid for RequestHeader {
+impl Put for RequestHeader {
     ghost layout = { request_header };
-
-    fn size(&self) -> usize {
-        self.key
-            .size()
-            .saturating_add(self.version.size())
-            .saturating_add(self.correlation.size())
-            .saturating_add(self.client.size())
-    }
 
     fn put(&self, out: &mut Vec<u8>) -> Result<(), Want> {
         self.key.put(out)?;
@@ -52,7 +44,9 @@ impl Laid for RequestHeader {
         self.client.put(out)?;
         Ok(())
     }
+}
 
+impl Laid for RequestHeader {
     fn read(alloc: Global, cursor: &mut Cursor) -> Result<RequestHeader, PrimNo> {
         let key = i16::read(alloc, cursor)?;
         let version = i16::read(alloc, cursor)?;
@@ -68,6 +62,8 @@ impl Laid for RequestHeader {
 
     ghost laid = { request_header_laid };
 }
+
+impl Message for RequestHeader {}
 
 /// What stands before a response's body (response header, version 0): `correlation_id`.
 #[derive(Drop)]
@@ -91,18 +87,16 @@ impl ResponseHeader {
     }
 }
 
-impl Laid for ResponseHeader {
+impl Put for ResponseHeader {
     ghost layout = { response_header };
-
-    fn size(&self) -> usize {
-        self.correlation.size()
-    }
 
     fn put(&self, out: &mut Vec<u8>) -> Result<(), Want> {
         self.correlation.put(out)?;
         Ok(())
     }
+}
 
+impl Laid for ResponseHeader {
     fn read(alloc: Global, cursor: &mut Cursor) -> Result<ResponseHeader, PrimNo> {
         let correlation = i32::read(alloc, cursor)?;
         Ok(ResponseHeader { correlation })
@@ -110,3 +104,5 @@ impl Laid for ResponseHeader {
 
     ghost laid = { response_header_laid };
 }
+
+impl Message for ResponseHeader {}

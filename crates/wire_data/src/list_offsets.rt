@@ -5,7 +5,7 @@ ghost use Rattle.wire_data.specs.ListOffsets.{list_offsets_request, list_offsets
 
 use gate_io::{Items, Text, Want};
 use std::alloc::Global;
-use wire_layout::{Laid, WireNo, read_whole, write_whole};
+use wire_layout::{Laid, Message, Put, WireNo, read_whole, write_whole};
 use wire_prim::{Cursor, PrimNo};
 
 /// Asks for offsets by time. `replica` is `replica_id`, `rows` is `topics`.
@@ -31,19 +31,17 @@ impl ListOffsetsRequest {
     }
 }
 
-impl Laid for ListOffsetsRequest {
+impl Put for ListOffsetsRequest {
     ghost layout = { list_offsets_request };
-
-    fn size(&self) -> usize {
-        self.replica.size().saturating_add(self.rows.size())
-    }
 
     fn put(&self, out: &mut Vec<u8>) -> Result<(), Want> {
         self.replica.put(out)?;
         self.rows.put(out)?;
         Ok(())
     }
+}
 
+impl Laid for ListOffsetsRequest {
     fn read(alloc: Global, cursor: &mut Cursor) -> Result<ListOffsetsRequest, PrimNo> {
         let replica = i32::read(alloc, cursor)?;
         let rows = Items::read(alloc, cursor)?;
@@ -53,6 +51,8 @@ impl Laid for ListOffsetsRequest {
     ghost laid = { list_offsets_request_laid };
 }
 
+impl Message for ListOffsetsRequest {}
+
 /// A topic (`ListOffsetsTopic`). `rows` is `partitions`.
 #[derive(Drop)]
 pub struct ListOffsetsRequestRow {
@@ -60,19 +60,17 @@ pub struct ListOffsetsRequestRow {
     pub rows: Items<ListOffsetsRequestRowRow>,
 }
 
-impl Laid for ListOffsetsRequestRow {
+impl Put for ListOffsetsRequestRow {
     ghost layout = { list_offsets_request_row };
-
-    fn size(&self) -> usize {
-        self.name.size().saturating_add(self.rows.size())
-    }
 
     fn put(&self, out: &mut Vec<u8>) -> Result<(), Want> {
         self.name.put(out)?;
         self.rows.put(out)?;
         Ok(())
     }
+}
 
+impl Laid for ListOffsetsRequestRow {
     fn read(alloc: Global, cursor: &mut Cursor) -> Result<ListOffsetsRequestRow, PrimNo> {
         let name = Text::read(alloc, cursor)?;
         let rows = Items::read(alloc, cursor)?;
@@ -90,19 +88,17 @@ pub struct ListOffsetsRequestRowRow {
     pub timestamp: i64,
 }
 
-impl Laid for ListOffsetsRequestRowRow {
+impl Put for ListOffsetsRequestRowRow {
     ghost layout = { list_offsets_request_row_row };
-
-    fn size(&self) -> usize {
-        self.partition.size().saturating_add(self.timestamp.size())
-    }
 
     fn put(&self, out: &mut Vec<u8>) -> Result<(), Want> {
         self.partition.put(out)?;
         self.timestamp.put(out)?;
         Ok(())
     }
+}
 
+impl Laid for ListOffsetsRequestRowRow {
     fn read(alloc: Global, cursor: &mut Cursor) -> Result<ListOffsetsRequestRowRow, PrimNo> {
         let partition = i32::read(alloc, cursor)?;
         let timestamp = i64::read(alloc, cursor)?;
@@ -137,18 +133,16 @@ impl ListOffsetsResponse {
     }
 }
 
-impl Laid for ListOffsetsResponse {
+impl Put for ListOffsetsResponse {
     ghost layout = { list_offsets_response };
-
-    fn size(&self) -> usize {
-        self.rows.size()
-    }
 
     fn put(&self, out: &mut Vec<u8>) -> Result<(), Want> {
         self.rows.put(out)?;
         Ok(())
     }
+}
 
+impl Laid for ListOffsetsResponse {
     fn read(alloc: Global, cursor: &mut Cursor) -> Result<ListOffsetsResponse, PrimNo> {
         let rows = Items::read(alloc, cursor)?;
         Ok(ListOffsetsResponse { rows })
@@ -157,6 +151,8 @@ impl Laid for ListOffsetsResponse {
     ghost laid = { list_offsets_response_laid };
 }
 
+impl Message for ListOffsetsResponse {}
+
 /// A topic (`ListOffsetsTopicResponse`). `rows` is `partitions`.
 #[derive(Drop)]
 pub struct ListOffsetsResponseRow {
@@ -164,19 +160,17 @@ pub struct ListOffsetsResponseRow {
     pub rows: Items<ListOffsetsResponseRowRow>,
 }
 
-impl Laid for ListOffsetsResponseRow {
+impl Put for ListOffsetsResponseRow {
     ghost layout = { list_offsets_response_row };
-
-    fn size(&self) -> usize {
-        self.name.size().saturating_add(self.rows.size())
-    }
 
     fn put(&self, out: &mut Vec<u8>) -> Result<(), Want> {
         self.name.put(out)?;
         self.rows.put(out)?;
         Ok(())
     }
+}
 
+impl Laid for ListOffsetsResponseRow {
     fn read(alloc: Global, cursor: &mut Cursor) -> Result<ListOffsetsResponseRow, PrimNo> {
         let name = Text::read(alloc, cursor)?;
         let rows = Items::read(alloc, cursor)?;
@@ -195,16 +189,8 @@ pub struct ListOffsetsResponseRowRow {
     pub offset: i64,
 }
 
-impl Laid for ListOffsetsResponseRowRow {
+impl Put for ListOffsetsResponseRowRow {
     ghost layout = { list_offsets_response_row_row };
-
-    fn size(&self) -> usize {
-        self.partition
-            .size()
-            .saturating_add(self.code.size())
-            .saturating_add(self.timestamp.size())
-            .saturating_add(self.offset.size())
-    }
 
     fn put(&self, out: &mut Vec<u8>) -> Result<(), Want> {
         self.partition.put(out)?;
@@ -213,7 +199,9 @@ impl Laid for ListOffsetsResponseRowRow {
         self.offset.put(out)?;
         Ok(())
     }
+}
 
+impl Laid for ListOffsetsResponseRowRow {
     fn read(alloc: Global, cursor: &mut Cursor) -> Result<ListOffsetsResponseRowRow, PrimNo> {
         let partition = i32::read(alloc, cursor)?;
         let code = i16::read(alloc, cursor)?;

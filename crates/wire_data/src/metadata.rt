@@ -5,7 +5,7 @@ ghost use Rattle.wire_data.specs.Metadata.{metadata_request, metadata_request_la
 
 use gate_io::{Items, Text, Want};
 use std::alloc::Global;
-use wire_layout::{Laid, WireNo, read_whole, write_whole};
+use wire_layout::{Laid, Message, Put, WireNo, read_whole, write_whole};
 use wire_prim::{Cursor, PrimNo};
 
 /// Asks for topics, all of them where it names none. `name` is the names of `topics`.
@@ -30,18 +30,16 @@ impl MetadataRequest {
     }
 }
 
-impl Laid for MetadataRequest {
+impl Put for MetadataRequest {
     ghost layout = { metadata_request };
-
-    fn size(&self) -> usize {
-        self.name.size()
-    }
 
     fn put(&self, out: &mut Vec<u8>) -> Result<(), Want> {
         self.name.put(out)?;
         Ok(())
     }
+}
 
+impl Laid for MetadataRequest {
     fn read(alloc: Global, cursor: &mut Cursor) -> Result<MetadataRequest, PrimNo> {
         let name = Option::read(alloc, cursor)?;
         Ok(MetadataRequest { name })
@@ -49,6 +47,8 @@ impl Laid for MetadataRequest {
 
     ghost laid = { metadata_request_laid };
 }
+
+impl Message for MetadataRequest {}
 
 /// A broker (`MetadataResponseBroker`). `node` is `node_id`.
 #[derive(Drop)]
@@ -59,16 +59,8 @@ pub struct MetadataResponseRow {
     pub rack: Option<Text>,
 }
 
-impl Laid for MetadataResponseRow {
+impl Put for MetadataResponseRow {
     ghost layout = { metadata_response_row };
-
-    fn size(&self) -> usize {
-        self.node
-            .size()
-            .saturating_add(self.host.size())
-            .saturating_add(self.port.size())
-            .saturating_add(self.rack.size())
-    }
 
     fn put(&self, out: &mut Vec<u8>) -> Result<(), Want> {
         self.node.put(out)?;
@@ -77,7 +69,9 @@ impl Laid for MetadataResponseRow {
         self.rack.put(out)?;
         Ok(())
     }
+}
 
+impl Laid for MetadataResponseRow {
     fn read(alloc: Global, cursor: &mut Cursor) -> Result<MetadataResponseRow, PrimNo> {
         let node = i32::read(alloc, cursor)?;
         let host = Text::read(alloc, cursor)?;
@@ -105,17 +99,8 @@ pub struct MetadataResponseRow2Row {
     pub in_sync: Items<i32>,
 }
 
-impl Laid for MetadataResponseRow2Row {
+impl Put for MetadataResponseRow2Row {
     ghost layout = { metadata_response_row2_row };
-
-    fn size(&self) -> usize {
-        self.code
-            .size()
-            .saturating_add(self.partition.size())
-            .saturating_add(self.leader.size())
-            .saturating_add(self.replica.size())
-            .saturating_add(self.in_sync.size())
-    }
 
     fn put(&self, out: &mut Vec<u8>) -> Result<(), Want> {
         self.code.put(out)?;
@@ -125,7 +110,9 @@ impl Laid for MetadataResponseRow2Row {
         self.in_sync.put(out)?;
         Ok(())
     }
+}
 
+impl Laid for MetadataResponseRow2Row {
     fn read(alloc: Global, cursor: &mut Cursor) -> Result<MetadataResponseRow2Row, PrimNo> {
         let code = i16::read(alloc, cursor)?;
         let partition = i32::read(alloc, cursor)?;

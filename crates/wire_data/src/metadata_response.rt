@@ -1,16 +1,14 @@
 //! Metadata, version 1, the response.
-ghost use Rattle.std.specs.Prelude.{◌≡◌, ◌++◌, map, IfOk, OnOk};
-ghost use Rattle.wire_prim.specs.Reading.{Takes};
-ghost use Rattle.wire_prim.specs.Behind.{AnswersOrWants, behind_many};
-ghost use Rattle.wire_layout.specs.Layout.{array, each, spelled};
-ghost use Rattle.wire_layout.specs.Whole.{IsWritten};
+ghost use Rattle.std.specs.Prelude.{◌≡◌, ◌++◌, map, IfErr, IfOk, OnOk};
+ghost use Rattle.wire_layout.specs.Layout.{ReachesOrWants, array, behind_many, each, spelled};
+ghost use Rattle.wire_layout.specs.Whole.{IsPlaced, IsWritten, cause_alone};
 ghost use Rattle.wire_data.specs.declared.metadata_response.MetadataResponse.{MetadataResponse};
 ghost use Rattle.wire_data.specs.MetadataResponse.{AreTold, IsResponseRead, IsTold, as_stored, flag_of, is_set, metadata_response, response_of, stored_of, stored_response, stored_topic, topic_of};
 
 use crate::metadata::{MetadataResponseRow, MetadataResponseRow2Row};
 use gate_io::{Items, Text, Want};
 use std::alloc::Global;
-use wire_layout::{Laid, WireNo, refusal_of};
+use wire_layout::{Laid, Message, Put, Refusal, WireNo, refusal_at, refusal_of, write_whole};
 use wire_prim::{Cursor, PrimNo, put_count};
 
 /// Brokers and topics. `rows` is `brokers`, `controller` is `controller_id`, `rows2` is `topics`.
@@ -45,7 +43,7 @@ fn flag_of(internal: bool) -> i8
 
 fn read_topic(alloc: Global, cursor: &mut Cursor) -> Result<MetadataResponseRow2, PrimNo>
     ensures value { IfOk result (λ m. IsTold topic_of stored_topic m cursor.old cursor.new) }
-    ensures answer { AnswersOrWants result (stored_topic.behind cursor.old.left) cursor.new.left }
+    ensures answer { ReachesOrWants result (stored_topic.behind cursor.old.left) cursor.new.left }
 {
     let code = i16::read(alloc, cursor)?;
     let name = Text::read(alloc, cursor)?;
@@ -66,7 +64,7 @@ fn read_topics(
     count: u32,
 ) -> Result<Items<MetadataResponseRow2>, PrimNo>
     ensures value { IfOk result (λ rows. AreTold count rows cursor.old cursor.new) }
-    ensures answer { AnswersOrWants result (behind_many count stored_topic.behind cursor.old.left) cursor.new.left }
+    ensures answer { ReachesOrWants result (behind_many count stored_topic.behind cursor.old.left) cursor.new.left }
 {
     let mut topics = Items::new(alloc);
     for _ in 0..count {
@@ -83,18 +81,15 @@ fn read_topics(
 #[tactic(auto, unfolding(wire_layout::specs::Layout::array))]
 fn topics(alloc: Global, cursor: &mut Cursor) -> Result<Items<MetadataResponseRow2>, PrimNo>
     ensures value { IfOk result (λ m. IsTold (map topic_of) (array stored_topic) m cursor.old cursor.new) }
-    ensures answer { AnswersOrWants result ((array stored_topic).behind cursor.old.left) cursor.new.left }
+    ensures answer { ReachesOrWants result ((array stored_topic).behind cursor.old.left) cursor.new.left }
 {
-    let size = cursor.int32()?;
-    if size < 0 {
-        return Err(PrimNo::Negative);
-    }
-    read_topics(alloc, cursor, size as u32)
+    let count = cursor.count()?;
+    read_topics(alloc, cursor, count)
 }
 
 fn response(alloc: Global, cursor: &mut Cursor) -> Result<MetadataResponse, PrimNo>
     ensures value { IfOk result (λ m. IsTold response_of stored_response m cursor.old cursor.new) }
-    ensures answer { AnswersOrWants result (stored_response.behind cursor.old.left) cursor.new.left }
+    ensures answer { ReachesOrWants result (stored_response.behind cursor.old.left) cursor.new.left }
 {
     let rows = Items::read(alloc, cursor)?;
     let controller = i32::read(alloc, cursor)?;
@@ -104,17 +99,6 @@ fn response(alloc: Global, cursor: &mut Cursor) -> Result<MetadataResponse, Prim
         controller,
         rows2,
     })
-}
-
-fn size_of_topics(topics: &[MetadataResponseRow2]) -> usize {
-    let mut size = 4usize;
-    for topic in topics {
-        size = size
-            .saturating_add(topic.name.size())
-            .saturating_add(topic.rows.size())
-            .saturating_add(3);
-    }
-    size
 }
 
 fn put_topic(out: &mut Vec<u8>, topic: &MetadataResponseRow2) -> Result<(), Want>
@@ -157,46 +141,51 @@ pub fn responses_tell_themselves()
 {}
 
 impl MetadataResponse {
-    /// Reads a body.
-    pub fn read(alloc: Global, bytes: &[u8]) -> Result<MetadataResponse, WireNo>
-        ensures { IsResponseRead bytes.now result }
+    /// Reads a body. A refusal has its place.
+    pub fn read_placed(alloc: Global, bytes: &[u8]) -> Result<MetadataResponse, Refusal>
+        ensures read { IsResponseRead bytes.now (cause_alone result) }
+        ensures place { IfErr result (λ refusal. IsPlaced refusal (stored_response.behind bytes.now) bytes.now) }
     {
         let mut cursor = Cursor::new(bytes);
         let message = match response(alloc, &mut cursor) {
             Ok(message) => message,
-            Err(cause) => return Err(refusal_of(cause)),
+            Err(cause) => return Err(refusal_at(refusal_of(cause), bytes.len(), cursor.left())),
         };
         let left = cursor.left();
         if left == 0 {
             Ok(message)
         } else {
-            Err(WireNo::Rest(left))
+            Err(refusal_at(WireNo::Rest(left), bytes.len(), left))
         }
     }
 
-    fn put(&self, out: &mut Vec<u8>) -> Result<(), Want>
-        ensures ok { OnOk result (out.new.items ≡ out.old.items ++ metadata_response.spelling self.now) }
-        ensures fits { OnOk result (metadata_response.fits self.now) }
+    /// Reads a body.
+    pub fn read(alloc: Global, bytes: &[u8]) -> Result<MetadataResponse, WireNo>
+        ensures { IsResponseRead bytes.now result }
     {
-        self.rows.put(out)?;
-        self.controller.put(out)?;
-        put_array(out, self.rows2.as_slice())?;
-        Ok(())
+        match MetadataResponse::read_placed(alloc, bytes) {
+            Ok(message) => Ok(message),
+            Err(refusal) => Err(refusal.cause),
+        }
     }
 
     /// Writes a body.
     pub fn write(&self, alloc: Global) -> Result<Vec<u8>, Want>
         ensures { IfOk result (λ out. IsWritten metadata_response 4 self.now out.items) }
     {
-        let size = self.rows.size().saturating_add(4);
-        let size = size.saturating_add(size_of_topics(self.rows2.as_slice()));
-        let Ok(mut out) = Vec::with_capacity(alloc, size) else {
-            return Err(Want);
-        };
-        self.put(&mut out)?;
-        if out.len() > 0x7fff_fffb {
-            return Err(Want);
-        }
-        Ok(out)
+        write_whole(alloc, 4, self)
     }
 }
+
+impl Put for MetadataResponse {
+    ghost layout = { metadata_response };
+
+    fn put(&self, out: &mut Vec<u8>) -> Result<(), Want> {
+        self.rows.put(out)?;
+        self.controller.put(out)?;
+        put_array(out, self.rows2.as_slice())?;
+        Ok(())
+    }
+}
+
+impl Message for MetadataResponse {}

@@ -6,8 +6,7 @@ ghost use Rattle.wire_data.specs.Produce.{produce_request, produce_request_laid,
 use gate_io::{Items, Text, Want};
 use std::alloc::Global;
 use wire_layout::{
-    Laid, WireNo, put_nullable_piece, read_nullable_piece, read_whole, size_of_nullable_piece,
-    write_whole,
+    Laid, Message, Put, WireNo, put_nullable_piece, read_nullable_piece, read_whole, write_whole,
 };
 use wire_prim::{Cursor, PrimNo};
 
@@ -36,16 +35,8 @@ impl ProduceRequest {
     }
 }
 
-impl Laid for ProduceRequest {
+impl Put for ProduceRequest {
     ghost layout = { produce_request };
-
-    fn size(&self) -> usize {
-        self.transactional_id
-            .size()
-            .saturating_add(self.acks.size())
-            .saturating_add(self.timeout_ms.size())
-            .saturating_add(self.rows.size())
-    }
 
     fn put(&self, out: &mut Vec<u8>) -> Result<(), Want> {
         self.transactional_id.put(out)?;
@@ -54,7 +45,9 @@ impl Laid for ProduceRequest {
         self.rows.put(out)?;
         Ok(())
     }
+}
 
+impl Laid for ProduceRequest {
     fn read(alloc: Global, cursor: &mut Cursor) -> Result<ProduceRequest, PrimNo> {
         let transactional_id = Option::read(alloc, cursor)?;
         let acks = i16::read(alloc, cursor)?;
@@ -71,6 +64,8 @@ impl Laid for ProduceRequest {
     ghost laid = { produce_request_laid };
 }
 
+impl Message for ProduceRequest {}
+
 /// A topic (`TopicProduceData`). `rows` is `partition_data`.
 #[derive(Drop)]
 pub struct ProduceRequestRow {
@@ -78,19 +73,17 @@ pub struct ProduceRequestRow {
     pub rows: Items<ProduceRequestRowRow>,
 }
 
-impl Laid for ProduceRequestRow {
+impl Put for ProduceRequestRow {
     ghost layout = { produce_request_row };
-
-    fn size(&self) -> usize {
-        self.name.size().saturating_add(self.rows.size())
-    }
 
     fn put(&self, out: &mut Vec<u8>) -> Result<(), Want> {
         self.name.put(out)?;
         self.rows.put(out)?;
         Ok(())
     }
+}
 
+impl Laid for ProduceRequestRow {
     fn read(alloc: Global, cursor: &mut Cursor) -> Result<ProduceRequestRow, PrimNo> {
         let name = Text::read(alloc, cursor)?;
         let rows = Items::read(alloc, cursor)?;
@@ -107,21 +100,17 @@ pub struct ProduceRequestRowRow {
     pub batch: Option<Items<u8>>,
 }
 
-impl Laid for ProduceRequestRowRow {
+impl Put for ProduceRequestRowRow {
     ghost layout = { produce_request_row_row };
-
-    fn size(&self) -> usize {
-        self.partition
-            .size()
-            .saturating_add(size_of_nullable_piece(&self.batch))
-    }
 
     fn put(&self, out: &mut Vec<u8>) -> Result<(), Want> {
         self.partition.put(out)?;
         put_nullable_piece(out, &self.batch)?;
         Ok(())
     }
+}
 
+impl Laid for ProduceRequestRowRow {
     fn read(alloc: Global, cursor: &mut Cursor) -> Result<ProduceRequestRowRow, PrimNo> {
         let partition = i32::read(alloc, cursor)?;
         let batch = read_nullable_piece(alloc, cursor)?;
@@ -154,19 +143,17 @@ impl ProduceResponse {
     }
 }
 
-impl Laid for ProduceResponse {
+impl Put for ProduceResponse {
     ghost layout = { produce_response };
-
-    fn size(&self) -> usize {
-        self.rows.size().saturating_add(self.throttle_ms.size())
-    }
 
     fn put(&self, out: &mut Vec<u8>) -> Result<(), Want> {
         self.rows.put(out)?;
         self.throttle_ms.put(out)?;
         Ok(())
     }
+}
 
+impl Laid for ProduceResponse {
     fn read(alloc: Global, cursor: &mut Cursor) -> Result<ProduceResponse, PrimNo> {
         let rows = Items::read(alloc, cursor)?;
         let throttle_ms = i32::read(alloc, cursor)?;
@@ -176,6 +163,8 @@ impl Laid for ProduceResponse {
     ghost laid = { produce_response_laid };
 }
 
+impl Message for ProduceResponse {}
+
 /// A topic (`TopicProduceResponse`). `rows` is `partition_responses`.
 #[derive(Drop)]
 pub struct ProduceResponseRow {
@@ -183,19 +172,17 @@ pub struct ProduceResponseRow {
     pub rows: Items<ProduceResponseRowRow>,
 }
 
-impl Laid for ProduceResponseRow {
+impl Put for ProduceResponseRow {
     ghost layout = { produce_response_row };
-
-    fn size(&self) -> usize {
-        self.name.size().saturating_add(self.rows.size())
-    }
 
     fn put(&self, out: &mut Vec<u8>) -> Result<(), Want> {
         self.name.put(out)?;
         self.rows.put(out)?;
         Ok(())
     }
+}
 
+impl Laid for ProduceResponseRow {
     fn read(alloc: Global, cursor: &mut Cursor) -> Result<ProduceResponseRow, PrimNo> {
         let name = Text::read(alloc, cursor)?;
         let rows = Items::read(alloc, cursor)?;
@@ -215,16 +202,8 @@ pub struct ProduceResponseRowRow {
     pub append_time: i64,
 }
 
-impl Laid for ProduceResponseRowRow {
+impl Put for ProduceResponseRowRow {
     ghost layout = { produce_response_row_row };
-
-    fn size(&self) -> usize {
-        self.partition
-            .size()
-            .saturating_add(self.code.size())
-            .saturating_add(self.base_offset.size())
-            .saturating_add(self.append_time.size())
-    }
 
     fn put(&self, out: &mut Vec<u8>) -> Result<(), Want> {
         self.partition.put(out)?;
@@ -233,7 +212,9 @@ impl Laid for ProduceResponseRowRow {
         self.append_time.put(out)?;
         Ok(())
     }
+}
 
+impl Laid for ProduceResponseRowRow {
     fn read(alloc: Global, cursor: &mut Cursor) -> Result<ProduceResponseRowRow, PrimNo> {
         let partition = i32::read(alloc, cursor)?;
         let code = i16::read(alloc, cursor)?;

@@ -7,7 +7,7 @@ use crate::{
 use std::alloc::Global;
 use std::process::Abort;
 use std::test::Fail;
-use wire_layout::write_frame;
+use wire_layout::{length_of, read_whole_placed, write_frame};
 use wire_prim::PrimNo;
 
 const PRODUCE_REQUEST: &[u8] = &[
@@ -164,10 +164,8 @@ const FRAME: &[u8] = &[
     0, 6, 0x6f, 0x72, 0x64, 0x65, 0x72, 0x73, // name
 ];
 
-// What was written is these bytes, in exactly the room that was made for them.
-fn same<R: Abort>(rt: &R, written: &[u8], capacity: usize, bytes: &[u8]) {
+fn same<R: Abort>(rt: &R, written: &[u8], bytes: &[u8]) {
     assert_eq!(rt; written, bytes);
-    assert_eq!(rt; capacity, bytes.len());
 }
 
 fn cut(bytes: &[u8]) -> &[u8] {
@@ -188,7 +186,7 @@ macro_rules! both_ways {
     ($rt:expr, $message:ident, $bytes:expr) => {
         let message = $message::read($rt.alloc(), $bytes)?;
         let written = message.write($rt.alloc())?;
-        same(&$rt, written.as_slice(), written.capacity(), $bytes);
+        same(&$rt, written.as_slice(), $bytes);
         let short = $message::read($rt.alloc(), cut($bytes)).err();
         assert!($rt; short == Some(WireNo::Prim(PrimNo::Short)));
         let longer = longer($rt.alloc(), $bytes)?;
@@ -273,7 +271,7 @@ fn an_empty_body_goes_both_ways(rt: HostRuntime) -> Result<(), Fail> {
 fn no_list_of_topics_is_no_empty_list(rt: HostRuntime) -> Result<(), Fail> {
     let all = MetadataRequest::read(rt.alloc(), ALL_TOPICS)?;
     assert!(rt; all.name.is_none());
-    same(&rt, all.write(rt.alloc())?.as_slice(), 4, ALL_TOPICS);
+    same(&rt, all.write(rt.alloc())?.as_slice(), ALL_TOPICS);
     Ok(())
 }
 
@@ -287,7 +285,6 @@ fn a_request_header_is_read_from_the_front(rt: HostRuntime) -> Result<(), Fail> 
     same(
         &rt,
         header.write(rt.alloc())?.as_slice(),
-        18,
         cut(REQUEST_HEADER),
     );
     let short = RequestHeader::read(rt.alloc(), cut(cut(REQUEST_HEADER))).err();
@@ -300,7 +297,7 @@ fn a_response_header_is_read_from_the_front(rt: HostRuntime) -> Result<(), Fail>
     let (header, size) = ResponseHeader::read(rt.alloc(), &[0, 0, 0, 1, 0, 0x1b])?;
     assert_eq!(rt; size, 4);
     assert_eq!(rt; header.correlation, 1);
-    same(&rt, header.write(rt.alloc())?.as_slice(), 4, &[0, 0, 0, 1]);
+    same(&rt, header.write(rt.alloc())?.as_slice(), &[0, 0, 0, 1]);
     Ok(())
 }
 
@@ -309,6 +306,49 @@ fn a_frame_is_written_in_one_piece(rt: HostRuntime) -> Result<(), Fail> {
     let (header, _) = RequestHeader::read(rt.alloc(), REQUEST_HEADER)?;
     let body = MetadataRequest::read(rt.alloc(), METADATA_REQUEST)?;
     let frame = write_frame(rt.alloc(), &header, &body)?;
-    same(&rt, frame.as_slice(), frame.capacity(), FRAME);
+    same(&rt, frame.as_slice(), FRAME);
+    Ok(())
+}
+
+// Bodies of a metadata request that don't read, why, and the place of the item that doesn't.
+const UNREADABLE: [(&[u8], WireNo, usize); 5] = [
+    // a count that is cut
+    (&[0, 0, 0], WireNo::Prim(PrimNo::Short), 0),
+    // a count below that of null
+    (&[0xff, 0xff, 0xff, 0xfe], WireNo::Prim(PrimNo::Negative), 0),
+    // a name past the end
+    (&[0, 0, 0, 1, 0, 3, b'a'], WireNo::Prim(PrimNo::Short), 4),
+    // a second name that isn't UTF-8
+    (
+        &[0, 0, 0, 2, 0, 1, b'a', 0, 1, 0xff],
+        WireNo::Prim(PrimNo::BadUtf8),
+        7,
+    ),
+    // a byte left over
+    (&[0, 0, 0, 0, 9], WireNo::Rest(1), 4),
+];
+
+fn stop_there(rt: &impl Abort, alloc: Global, cases: &[(&[u8], WireNo, usize)]) {
+    for (bytes, cause, place) in cases {
+        match read_whole_placed::<MetadataRequest>(alloc, bytes) {
+            Ok(_) => assert!(rt; false, "read"),
+            Err(refusal) => {
+                assert!(rt; refusal.cause == *cause);
+                assert_eq!(rt; refusal.place, *place);
+            }
+        }
+    }
+}
+
+#[test]
+fn a_refusal_stands_at_the_item_that_does_not_read(rt: HostRuntime) -> Result<(), Fail> {
+    stop_there(&rt, rt.alloc(), &UNREADABLE);
+    Ok(())
+}
+
+#[test]
+fn a_header_has_so_many_bytes(rt: HostRuntime) -> Result<(), Fail> {
+    let (header, size) = RequestHeader::read(rt.alloc(), REQUEST_HEADER)?;
+    assert_eq!(rt; length_of(rt.alloc(), &header)?, size);
     Ok(())
 }

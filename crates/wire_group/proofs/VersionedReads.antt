@@ -4,7 +4,7 @@ use Rattle.std.specs.Int.{w16}
 use Rattle.wire_prim.specs.Item.{int16_bytes}
 use Rattle.wire_prim.specs.Behind.{behind_int16, int16_at}
 use Rattle.wire_prim.proofs.Readback.{int16_once}
-use Rattle.wire_layout.specs.Layout.{Layout}
+use Rattle.wire_layout.specs.Layout.{Layout, without_place}
 use Rattle.wire_layout.specs.Laid.{IsLaid}
 use Rattle.wire_group.specs.Versioned.{IsVersionedRead, Spells}
 
@@ -25,7 +25,7 @@ versioned_read layout laid whole left rest (pos n) m small above front behind se
     none = λ zero. none (ap pos zero);
   };
   fits = fits;
-  answer = (rest, rw (behind, sym seen) ends, λ zero. none (seen ∙ zero));
+  answer = (rest, rw (behind, sym seen) (ap without_place ends), λ zero. none (seen ∙ zero));
   exact = λ other fits' spells.
       let small' : FitsSigned w16 (pos spells.version) = record { sfits = spells.small } in
       let same = sym front ∙ spells.bytes in

@@ -5,7 +5,7 @@ use Rattle.wire_prim.specs.Behind.{Behind, next, behind_int16, int16_at}
 use Rattle.wire_prim.specs.Item.{int16_bytes}
 use Rattle.wire_layout.specs.declared.error.WireNo.{WireNo}
 use Rattle.wire_layout.specs.declared.error.WireNo.TheVariants.{Prim, Rest, Want}
-use Rattle.wire_layout.specs.Layout.{Layout}
+use Rattle.wire_layout.specs.Layout.{Layout, without_place}
 use Rattle.wire_layout.specs.Whole.{IsOrWants}
 
 -- a version from 0 on, the fields, and in a version above 0 any further bytes
@@ -35,7 +35,7 @@ VersionedEnds (Err Want) behind version = Unit {0}
 pub record IsVersionedRead {M : Type 0} (layout : Layout M) (whole : List ℕ) (result : Result M WireNo) : Type 0 where
   pub value : IfOk result (λ m. Spells layout m whole)
   pub fits : IfOk result layout.fits
-  pub answer : VersionedEnds result (behind_versioned layout.behind whole) (int16_at whole)
+  pub answer : VersionedEnds result (behind_versioned (λ left. without_place (layout.behind left)) whole) (int16_at whole)
   pub exact : (m : M) → layout.fits m → Spells layout m whole → IsOrWants result m
 
 -- the bytes are version 0 and the spelling of the fields, which have one, and they stand in BYTES

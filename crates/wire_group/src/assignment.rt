@@ -6,7 +6,7 @@ ghost use Rattle.wire_group.specs.Assignment.{assignment, assignment_laid, assig
 use crate::versioned::{read_versioned, write_versioned};
 use gate_io::{Items, Text, Want};
 use std::alloc::Global;
-use wire_layout::{Laid, WireNo, put_nullable_piece, read_nullable_piece, size_of_nullable_piece};
+use wire_layout::{Laid, Put, WireNo, put_nullable_piece, read_nullable_piece};
 use wire_prim::{Cursor, PrimNo};
 
 /// The partitions that a member is given (`ConsumerProtocolAssignment`). Its version is 0. `rows` is
@@ -35,14 +35,8 @@ impl Assignment {
 }
 
 /// Of what stands behind the version.
-impl Laid for Assignment {
+impl Put for Assignment {
     ghost layout = { assignment };
-
-    fn size(&self) -> usize {
-        self.rows
-            .size()
-            .saturating_add(size_of_nullable_piece(&self.user))
-    }
 
     fn put(&self, out: &mut Vec<u8>) -> Result<(), Want> {
         if self.version != 0 {
@@ -52,7 +46,10 @@ impl Laid for Assignment {
         put_nullable_piece(out, &self.user)?;
         Ok(())
     }
+}
 
+/// Of what stands behind the version.
+impl Laid for Assignment {
     fn read(alloc: Global, cursor: &mut Cursor) -> Result<Assignment, PrimNo> {
         let rows = Items::read(alloc, cursor)?;
         let user = read_nullable_piece(alloc, cursor)?;
@@ -73,19 +70,17 @@ pub struct AssignmentRow {
     pub partition: Items<i32>,
 }
 
-impl Laid for AssignmentRow {
+impl Put for AssignmentRow {
     ghost layout = { assignment_row };
-
-    fn size(&self) -> usize {
-        self.topic.size().saturating_add(self.partition.size())
-    }
 
     fn put(&self, out: &mut Vec<u8>) -> Result<(), Want> {
         self.topic.put(out)?;
         self.partition.put(out)?;
         Ok(())
     }
+}
 
+impl Laid for AssignmentRow {
     fn read(alloc: Global, cursor: &mut Cursor) -> Result<AssignmentRow, PrimNo> {
         let topic = Text::read(alloc, cursor)?;
         let partition = Items::read(alloc, cursor)?;

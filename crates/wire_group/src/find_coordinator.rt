@@ -5,7 +5,7 @@ ghost use Rattle.wire_group.specs.FindCoordinator.{find_coordinator_request, fin
 
 use gate_io::{Text, Want};
 use std::alloc::Global;
-use wire_layout::{Laid, WireNo, read_whole, write_whole};
+use wire_layout::{Laid, Message, Put, WireNo, read_whole, write_whole};
 use wire_prim::{Cursor, PrimNo};
 
 /// Asks for the broker that coordinates a group. `group` is `key`.
@@ -30,18 +30,16 @@ impl FindCoordinatorRequest {
     }
 }
 
-impl Laid for FindCoordinatorRequest {
+impl Put for FindCoordinatorRequest {
     ghost layout = { find_coordinator_request };
-
-    fn size(&self) -> usize {
-        self.group.size()
-    }
 
     fn put(&self, out: &mut Vec<u8>) -> Result<(), Want> {
         self.group.put(out)?;
         Ok(())
     }
+}
 
+impl Laid for FindCoordinatorRequest {
     fn read(alloc: Global, cursor: &mut Cursor) -> Result<FindCoordinatorRequest, PrimNo> {
         let group = Text::read(alloc, cursor)?;
         Ok(FindCoordinatorRequest { group })
@@ -49,6 +47,8 @@ impl Laid for FindCoordinatorRequest {
 
     ghost laid = { find_coordinator_request_laid };
 }
+
+impl Message for FindCoordinatorRequest {}
 
 /// The broker that coordinates a group. `code` is `error_code`, `node` is `node_id`.
 #[derive(Drop)]
@@ -75,16 +75,8 @@ impl FindCoordinatorResponse {
     }
 }
 
-impl Laid for FindCoordinatorResponse {
+impl Put for FindCoordinatorResponse {
     ghost layout = { find_coordinator_response };
-
-    fn size(&self) -> usize {
-        self.code
-            .size()
-            .saturating_add(self.node.size())
-            .saturating_add(self.host.size())
-            .saturating_add(self.port.size())
-    }
 
     fn put(&self, out: &mut Vec<u8>) -> Result<(), Want> {
         self.code.put(out)?;
@@ -93,7 +85,9 @@ impl Laid for FindCoordinatorResponse {
         self.port.put(out)?;
         Ok(())
     }
+}
 
+impl Laid for FindCoordinatorResponse {
     fn read(alloc: Global, cursor: &mut Cursor) -> Result<FindCoordinatorResponse, PrimNo> {
         let code = i16::read(alloc, cursor)?;
         let node = i32::read(alloc, cursor)?;
@@ -109,3 +103,5 @@ impl Laid for FindCoordinatorResponse {
 
     ghost laid = { find_coordinator_response_laid };
 }
+
+impl Message for FindCoordinatorResponse {}

@@ -5,7 +5,7 @@ ghost use Rattle.wire_group.specs.Heartbeat.{heartbeat_request, heartbeat_reques
 
 use gate_io::{Text, Want};
 use std::alloc::Global;
-use wire_layout::{Laid, WireNo, read_whole, write_whole};
+use wire_layout::{Laid, Message, Put, WireNo, read_whole, write_whole};
 use wire_prim::{Cursor, PrimNo};
 
 /// A member's sign of life: `group_id`, `generation_id` and `member_id`.
@@ -32,15 +32,8 @@ impl HeartbeatRequest {
     }
 }
 
-impl Laid for HeartbeatRequest {
+impl Put for HeartbeatRequest {
     ghost layout = { heartbeat_request };
-
-    fn size(&self) -> usize {
-        self.group
-            .size()
-            .saturating_add(self.generation.size())
-            .saturating_add(self.member.size())
-    }
 
     fn put(&self, out: &mut Vec<u8>) -> Result<(), Want> {
         self.group.put(out)?;
@@ -48,7 +41,9 @@ impl Laid for HeartbeatRequest {
         self.member.put(out)?;
         Ok(())
     }
+}
 
+impl Laid for HeartbeatRequest {
     fn read(alloc: Global, cursor: &mut Cursor) -> Result<HeartbeatRequest, PrimNo> {
         let group = Text::read(alloc, cursor)?;
         let generation = i32::read(alloc, cursor)?;
@@ -62,6 +57,8 @@ impl Laid for HeartbeatRequest {
 
     ghost laid = { heartbeat_request_laid };
 }
+
+impl Message for HeartbeatRequest {}
 
 /// Whether the member still belongs to its group. `code` is `error_code`.
 #[derive(Drop)]
@@ -85,18 +82,16 @@ impl HeartbeatResponse {
     }
 }
 
-impl Laid for HeartbeatResponse {
+impl Put for HeartbeatResponse {
     ghost layout = { heartbeat_response };
-
-    fn size(&self) -> usize {
-        self.code.size()
-    }
 
     fn put(&self, out: &mut Vec<u8>) -> Result<(), Want> {
         self.code.put(out)?;
         Ok(())
     }
+}
 
+impl Laid for HeartbeatResponse {
     fn read(alloc: Global, cursor: &mut Cursor) -> Result<HeartbeatResponse, PrimNo> {
         let code = i16::read(alloc, cursor)?;
         Ok(HeartbeatResponse { code })
@@ -104,3 +99,5 @@ impl Laid for HeartbeatResponse {
 
     ghost laid = { heartbeat_response_laid };
 }
+
+impl Message for HeartbeatResponse {}

@@ -5,7 +5,7 @@ ghost use Rattle.wire_group.specs.JoinGroup.{join_group_request, join_group_requ
 
 use gate_io::{Items, Text, Want};
 use std::alloc::Global;
-use wire_layout::{Laid, WireNo, put_piece, read_piece, read_whole, size_of_piece, write_whole};
+use wire_layout::{Laid, Message, Put, WireNo, put_piece, read_piece, read_whole, write_whole};
 use wire_prim::{Cursor, PrimNo};
 
 /// A member joins a group: `group_id`, `session_timeout_ms`, `rebalance_timeout_ms`, `member_id`, `protocol_type`, and
@@ -36,18 +36,8 @@ impl JoinGroupRequest {
     }
 }
 
-impl Laid for JoinGroupRequest {
+impl Put for JoinGroupRequest {
     ghost layout = { join_group_request };
-
-    fn size(&self) -> usize {
-        self.group
-            .size()
-            .saturating_add(self.session_ms.size())
-            .saturating_add(self.rebalance_ms.size())
-            .saturating_add(self.member.size())
-            .saturating_add(self.protocol_type.size())
-            .saturating_add(self.rows.size())
-    }
 
     fn put(&self, out: &mut Vec<u8>) -> Result<(), Want> {
         self.group.put(out)?;
@@ -58,7 +48,9 @@ impl Laid for JoinGroupRequest {
         self.rows.put(out)?;
         Ok(())
     }
+}
 
+impl Laid for JoinGroupRequest {
     fn read(alloc: Global, cursor: &mut Cursor) -> Result<JoinGroupRequest, PrimNo> {
         let group = Text::read(alloc, cursor)?;
         let session_ms = i32::read(alloc, cursor)?;
@@ -79,6 +71,8 @@ impl Laid for JoinGroupRequest {
     ghost laid = { join_group_request_laid };
 }
 
+impl Message for JoinGroupRequest {}
+
 /// A protocol that the member offers, with its `Subscription` (`JoinGroupRequestProtocol`).
 #[derive(Drop)]
 pub struct JoinGroupRequestRow {
@@ -86,21 +80,17 @@ pub struct JoinGroupRequestRow {
     pub metadata: Items<u8>,
 }
 
-impl Laid for JoinGroupRequestRow {
+impl Put for JoinGroupRequestRow {
     ghost layout = { join_group_request_row };
-
-    fn size(&self) -> usize {
-        self.name
-            .size()
-            .saturating_add(size_of_piece(&self.metadata))
-    }
 
     fn put(&self, out: &mut Vec<u8>) -> Result<(), Want> {
         self.name.put(out)?;
         put_piece(out, &self.metadata)?;
         Ok(())
     }
+}
 
+impl Laid for JoinGroupRequestRow {
     fn read(alloc: Global, cursor: &mut Cursor) -> Result<JoinGroupRequestRow, PrimNo> {
         let name = Text::read(alloc, cursor)?;
         let metadata = read_piece(alloc, cursor)?;
@@ -139,19 +129,8 @@ impl JoinGroupResponse {
     }
 }
 
-impl Laid for JoinGroupResponse {
+impl Put for JoinGroupResponse {
     ghost layout = { join_group_response };
-
-    fn size(&self) -> usize {
-        self.throttle_ms
-            .size()
-            .saturating_add(self.code.size())
-            .saturating_add(self.generation.size())
-            .saturating_add(self.protocol.size())
-            .saturating_add(self.leader.size())
-            .saturating_add(self.member.size())
-            .saturating_add(self.rows.size())
-    }
 
     fn put(&self, out: &mut Vec<u8>) -> Result<(), Want> {
         self.throttle_ms.put(out)?;
@@ -163,7 +142,9 @@ impl Laid for JoinGroupResponse {
         self.rows.put(out)?;
         Ok(())
     }
+}
 
+impl Laid for JoinGroupResponse {
     fn read(alloc: Global, cursor: &mut Cursor) -> Result<JoinGroupResponse, PrimNo> {
         let throttle_ms = i32::read(alloc, cursor)?;
         let code = i16::read(alloc, cursor)?;
@@ -186,6 +167,8 @@ impl Laid for JoinGroupResponse {
     ghost laid = { join_group_response_laid };
 }
 
+impl Message for JoinGroupResponse {}
+
 /// A member, with its `Subscription`, for the leader (`JoinGroupResponseMember`). `member` is `member_id`.
 #[derive(Drop)]
 pub struct JoinGroupResponseRow {
@@ -193,21 +176,17 @@ pub struct JoinGroupResponseRow {
     pub metadata: Items<u8>,
 }
 
-impl Laid for JoinGroupResponseRow {
+impl Put for JoinGroupResponseRow {
     ghost layout = { join_group_response_row };
-
-    fn size(&self) -> usize {
-        self.member
-            .size()
-            .saturating_add(size_of_piece(&self.metadata))
-    }
 
     fn put(&self, out: &mut Vec<u8>) -> Result<(), Want> {
         self.member.put(out)?;
         put_piece(out, &self.metadata)?;
         Ok(())
     }
+}
 
+impl Laid for JoinGroupResponseRow {
     fn read(alloc: Global, cursor: &mut Cursor) -> Result<JoinGroupResponseRow, PrimNo> {
         let member = Text::read(alloc, cursor)?;
         let metadata = read_piece(alloc, cursor)?;

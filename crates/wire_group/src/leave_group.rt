@@ -5,7 +5,7 @@ ghost use Rattle.wire_group.specs.LeaveGroup.{leave_group_request, leave_group_r
 
 use gate_io::{Text, Want};
 use std::alloc::Global;
-use wire_layout::{Laid, WireNo, read_whole, write_whole};
+use wire_layout::{Laid, Message, Put, WireNo, read_whole, write_whole};
 use wire_prim::{Cursor, PrimNo};
 
 /// A member leaves its group: `group_id` and `member_id`.
@@ -31,19 +31,17 @@ impl LeaveGroupRequest {
     }
 }
 
-impl Laid for LeaveGroupRequest {
+impl Put for LeaveGroupRequest {
     ghost layout = { leave_group_request };
-
-    fn size(&self) -> usize {
-        self.group.size().saturating_add(self.member.size())
-    }
 
     fn put(&self, out: &mut Vec<u8>) -> Result<(), Want> {
         self.group.put(out)?;
         self.member.put(out)?;
         Ok(())
     }
+}
 
+impl Laid for LeaveGroupRequest {
     fn read(alloc: Global, cursor: &mut Cursor) -> Result<LeaveGroupRequest, PrimNo> {
         let group = Text::read(alloc, cursor)?;
         let member = Text::read(alloc, cursor)?;
@@ -52,6 +50,8 @@ impl Laid for LeaveGroupRequest {
 
     ghost laid = { leave_group_request_laid };
 }
+
+impl Message for LeaveGroupRequest {}
 
 /// Whether it left. `code` is `error_code`.
 #[derive(Drop)]
@@ -75,18 +75,16 @@ impl LeaveGroupResponse {
     }
 }
 
-impl Laid for LeaveGroupResponse {
+impl Put for LeaveGroupResponse {
     ghost layout = { leave_group_response };
-
-    fn size(&self) -> usize {
-        self.code.size()
-    }
 
     fn put(&self, out: &mut Vec<u8>) -> Result<(), Want> {
         self.code.put(out)?;
         Ok(())
     }
+}
 
+impl Laid for LeaveGroupResponse {
     fn read(alloc: Global, cursor: &mut Cursor) -> Result<LeaveGroupResponse, PrimNo> {
         let code = i16::read(alloc, cursor)?;
         Ok(LeaveGroupResponse { code })
@@ -94,3 +92,5 @@ impl Laid for LeaveGroupResponse {
 
     ghost laid = { leave_group_response_laid };
 }
+
+impl Message for LeaveGroupResponse {}

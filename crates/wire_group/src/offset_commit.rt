@@ -5,7 +5,7 @@ ghost use Rattle.wire_group.specs.OffsetCommit.{offset_commit_request, offset_co
 
 use gate_io::{Items, Text, Want};
 use std::alloc::Global;
-use wire_layout::{Laid, WireNo, read_whole, write_whole};
+use wire_layout::{Laid, Message, Put, WireNo, read_whole, write_whole};
 use wire_prim::{Cursor, PrimNo};
 
 /// Keeps offsets for a group: `group_id`, `generation_id`, `member_id`, `retention_time_ms` in milliseconds, and `topics` as
@@ -35,17 +35,8 @@ impl OffsetCommitRequest {
     }
 }
 
-impl Laid for OffsetCommitRequest {
+impl Put for OffsetCommitRequest {
     ghost layout = { offset_commit_request };
-
-    fn size(&self) -> usize {
-        self.group
-            .size()
-            .saturating_add(self.generation.size())
-            .saturating_add(self.member.size())
-            .saturating_add(self.retention_ms.size())
-            .saturating_add(self.rows.size())
-    }
 
     fn put(&self, out: &mut Vec<u8>) -> Result<(), Want> {
         self.group.put(out)?;
@@ -55,7 +46,9 @@ impl Laid for OffsetCommitRequest {
         self.rows.put(out)?;
         Ok(())
     }
+}
 
+impl Laid for OffsetCommitRequest {
     fn read(alloc: Global, cursor: &mut Cursor) -> Result<OffsetCommitRequest, PrimNo> {
         let group = Text::read(alloc, cursor)?;
         let generation = i32::read(alloc, cursor)?;
@@ -74,6 +67,8 @@ impl Laid for OffsetCommitRequest {
     ghost laid = { offset_commit_request_laid };
 }
 
+impl Message for OffsetCommitRequest {}
+
 /// A topic (`OffsetCommitRequestTopic`). `rows` is `partitions`.
 #[derive(Drop)]
 pub struct OffsetCommitRequestRow {
@@ -81,19 +76,17 @@ pub struct OffsetCommitRequestRow {
     pub rows: Items<OffsetCommitRequestRowRow>,
 }
 
-impl Laid for OffsetCommitRequestRow {
+impl Put for OffsetCommitRequestRow {
     ghost layout = { offset_commit_request_row };
-
-    fn size(&self) -> usize {
-        self.name.size().saturating_add(self.rows.size())
-    }
 
     fn put(&self, out: &mut Vec<u8>) -> Result<(), Want> {
         self.name.put(out)?;
         self.rows.put(out)?;
         Ok(())
     }
+}
 
+impl Laid for OffsetCommitRequestRow {
     fn read(alloc: Global, cursor: &mut Cursor) -> Result<OffsetCommitRequestRow, PrimNo> {
         let name = Text::read(alloc, cursor)?;
         let rows = Items::read(alloc, cursor)?;
@@ -112,15 +105,8 @@ pub struct OffsetCommitRequestRowRow {
     pub metadata: Option<Text>,
 }
 
-impl Laid for OffsetCommitRequestRowRow {
+impl Put for OffsetCommitRequestRowRow {
     ghost layout = { offset_commit_request_row_row };
-
-    fn size(&self) -> usize {
-        self.partition
-            .size()
-            .saturating_add(self.offset.size())
-            .saturating_add(self.metadata.size())
-    }
 
     fn put(&self, out: &mut Vec<u8>) -> Result<(), Want> {
         self.partition.put(out)?;
@@ -128,7 +114,9 @@ impl Laid for OffsetCommitRequestRowRow {
         self.metadata.put(out)?;
         Ok(())
     }
+}
 
+impl Laid for OffsetCommitRequestRowRow {
     fn read(alloc: Global, cursor: &mut Cursor) -> Result<OffsetCommitRequestRowRow, PrimNo> {
         let partition = i32::read(alloc, cursor)?;
         let offset = i64::read(alloc, cursor)?;
@@ -165,18 +153,16 @@ impl OffsetCommitResponse {
     }
 }
 
-impl Laid for OffsetCommitResponse {
+impl Put for OffsetCommitResponse {
     ghost layout = { offset_commit_response };
-
-    fn size(&self) -> usize {
-        self.rows.size()
-    }
 
     fn put(&self, out: &mut Vec<u8>) -> Result<(), Want> {
         self.rows.put(out)?;
         Ok(())
     }
+}
 
+impl Laid for OffsetCommitResponse {
     fn read(alloc: Global, cursor: &mut Cursor) -> Result<OffsetCommitResponse, PrimNo> {
         let rows = Items::read(alloc, cursor)?;
         Ok(OffsetCommitResponse { rows })
@@ -185,6 +171,8 @@ impl Laid for OffsetCommitResponse {
     ghost laid = { offset_commit_response_laid };
 }
 
+impl Message for OffsetCommitResponse {}
+
 /// A topic (`OffsetCommitResponseTopic`). `rows` is `partitions`.
 #[derive(Drop)]
 pub struct OffsetCommitResponseRow {
@@ -192,19 +180,17 @@ pub struct OffsetCommitResponseRow {
     pub rows: Items<OffsetCommitResponseRowRow>,
 }
 
-impl Laid for OffsetCommitResponseRow {
+impl Put for OffsetCommitResponseRow {
     ghost layout = { offset_commit_response_row };
-
-    fn size(&self) -> usize {
-        self.name.size().saturating_add(self.rows.size())
-    }
 
     fn put(&self, out: &mut Vec<u8>) -> Result<(), Want> {
         self.name.put(out)?;
         self.rows.put(out)?;
         Ok(())
     }
+}
 
+impl Laid for OffsetCommitResponseRow {
     fn read(alloc: Global, cursor: &mut Cursor) -> Result<OffsetCommitResponseRow, PrimNo> {
         let name = Text::read(alloc, cursor)?;
         let rows = Items::read(alloc, cursor)?;
@@ -221,19 +207,17 @@ pub struct OffsetCommitResponseRowRow {
     pub code: i16,
 }
 
-impl Laid for OffsetCommitResponseRowRow {
+impl Put for OffsetCommitResponseRowRow {
     ghost layout = { offset_commit_response_row_row };
-
-    fn size(&self) -> usize {
-        self.partition.size().saturating_add(self.code.size())
-    }
 
     fn put(&self, out: &mut Vec<u8>) -> Result<(), Want> {
         self.partition.put(out)?;
         self.code.put(out)?;
         Ok(())
     }
+}
 
+impl Laid for OffsetCommitResponseRowRow {
     fn read(alloc: Global, cursor: &mut Cursor) -> Result<OffsetCommitResponseRowRow, PrimNo> {
         let partition = i32::read(alloc, cursor)?;
         let code = i16::read(alloc, cursor)?;

@@ -5,7 +5,7 @@ ghost use Rattle.wire_group.specs.OffsetFetch.{offset_fetch_request, offset_fetc
 
 use gate_io::{Items, Text, Want};
 use std::alloc::Global;
-use wire_layout::{Laid, WireNo, read_whole, write_whole};
+use wire_layout::{Laid, Message, Put, WireNo, read_whole, write_whole};
 use wire_prim::{Cursor, PrimNo};
 
 /// Asks for the offsets that are kept for a group. `group` is `group_id`, `rows` is `topics`.
@@ -31,19 +31,17 @@ impl OffsetFetchRequest {
     }
 }
 
-impl Laid for OffsetFetchRequest {
+impl Put for OffsetFetchRequest {
     ghost layout = { offset_fetch_request };
-
-    fn size(&self) -> usize {
-        self.group.size().saturating_add(self.rows.size())
-    }
 
     fn put(&self, out: &mut Vec<u8>) -> Result<(), Want> {
         self.group.put(out)?;
         self.rows.put(out)?;
         Ok(())
     }
+}
 
+impl Laid for OffsetFetchRequest {
     fn read(alloc: Global, cursor: &mut Cursor) -> Result<OffsetFetchRequest, PrimNo> {
         let group = Text::read(alloc, cursor)?;
         let rows = Items::read(alloc, cursor)?;
@@ -53,6 +51,8 @@ impl Laid for OffsetFetchRequest {
     ghost laid = { offset_fetch_request_laid };
 }
 
+impl Message for OffsetFetchRequest {}
+
 /// A topic and its partitions (`OffsetFetchRequestTopic`). `partition` is `partition_indexes`.
 #[derive(Drop)]
 pub struct OffsetFetchRequestRow {
@@ -60,19 +60,17 @@ pub struct OffsetFetchRequestRow {
     pub partition: Items<i32>,
 }
 
-impl Laid for OffsetFetchRequestRow {
+impl Put for OffsetFetchRequestRow {
     ghost layout = { offset_fetch_request_row };
-
-    fn size(&self) -> usize {
-        self.name.size().saturating_add(self.partition.size())
-    }
 
     fn put(&self, out: &mut Vec<u8>) -> Result<(), Want> {
         self.name.put(out)?;
         self.partition.put(out)?;
         Ok(())
     }
+}
 
+impl Laid for OffsetFetchRequestRow {
     fn read(alloc: Global, cursor: &mut Cursor) -> Result<OffsetFetchRequestRow, PrimNo> {
         let name = Text::read(alloc, cursor)?;
         let partition = Items::read(alloc, cursor)?;
@@ -104,18 +102,16 @@ impl OffsetFetchResponse {
     }
 }
 
-impl Laid for OffsetFetchResponse {
+impl Put for OffsetFetchResponse {
     ghost layout = { offset_fetch_response };
-
-    fn size(&self) -> usize {
-        self.rows.size()
-    }
 
     fn put(&self, out: &mut Vec<u8>) -> Result<(), Want> {
         self.rows.put(out)?;
         Ok(())
     }
+}
 
+impl Laid for OffsetFetchResponse {
     fn read(alloc: Global, cursor: &mut Cursor) -> Result<OffsetFetchResponse, PrimNo> {
         let rows = Items::read(alloc, cursor)?;
         Ok(OffsetFetchResponse { rows })
@@ -124,6 +120,8 @@ impl Laid for OffsetFetchResponse {
     ghost laid = { offset_fetch_response_laid };
 }
 
+impl Message for OffsetFetchResponse {}
+
 /// A topic (`OffsetFetchResponseTopic`). `rows` is `partitions`.
 #[derive(Drop)]
 pub struct OffsetFetchResponseRow {
@@ -131,19 +129,17 @@ pub struct OffsetFetchResponseRow {
     pub rows: Items<OffsetFetchResponseRowRow>,
 }
 
-impl Laid for OffsetFetchResponseRow {
+impl Put for OffsetFetchResponseRow {
     ghost layout = { offset_fetch_response_row };
-
-    fn size(&self) -> usize {
-        self.name.size().saturating_add(self.rows.size())
-    }
 
     fn put(&self, out: &mut Vec<u8>) -> Result<(), Want> {
         self.name.put(out)?;
         self.rows.put(out)?;
         Ok(())
     }
+}
 
+impl Laid for OffsetFetchResponseRow {
     fn read(alloc: Global, cursor: &mut Cursor) -> Result<OffsetFetchResponseRow, PrimNo> {
         let name = Text::read(alloc, cursor)?;
         let rows = Items::read(alloc, cursor)?;
@@ -163,16 +159,8 @@ pub struct OffsetFetchResponseRowRow {
     pub code: i16,
 }
 
-impl Laid for OffsetFetchResponseRowRow {
+impl Put for OffsetFetchResponseRowRow {
     ghost layout = { offset_fetch_response_row_row };
-
-    fn size(&self) -> usize {
-        self.partition
-            .size()
-            .saturating_add(self.offset.size())
-            .saturating_add(self.metadata.size())
-            .saturating_add(self.code.size())
-    }
 
     fn put(&self, out: &mut Vec<u8>) -> Result<(), Want> {
         self.partition.put(out)?;
@@ -181,7 +169,9 @@ impl Laid for OffsetFetchResponseRowRow {
         self.code.put(out)?;
         Ok(())
     }
+}
 
+impl Laid for OffsetFetchResponseRowRow {
     fn read(alloc: Global, cursor: &mut Cursor) -> Result<OffsetFetchResponseRowRow, PrimNo> {
         let partition = i32::read(alloc, cursor)?;
         let offset = i64::read(alloc, cursor)?;

@@ -6,7 +6,7 @@ ghost use Rattle.wire_group.specs.Subscription.{subscription, subscription_laid}
 use crate::versioned::{read_versioned, write_versioned};
 use gate_io::{Items, Text, Want};
 use std::alloc::Global;
-use wire_layout::{Laid, WireNo, put_nullable_piece, read_nullable_piece, size_of_nullable_piece};
+use wire_layout::{Laid, Put, WireNo, put_nullable_piece, read_nullable_piece};
 use wire_prim::{Cursor, PrimNo};
 
 /// The topics that a member asks for (`ConsumerProtocolSubscription`). Its version is 0. `topic` is `topics`, `user` is
@@ -35,14 +35,8 @@ impl Subscription {
 }
 
 /// Of what stands behind the version.
-impl Laid for Subscription {
+impl Put for Subscription {
     ghost layout = { subscription };
-
-    fn size(&self) -> usize {
-        self.topic
-            .size()
-            .saturating_add(size_of_nullable_piece(&self.user))
-    }
 
     fn put(&self, out: &mut Vec<u8>) -> Result<(), Want> {
         if self.version != 0 {
@@ -52,7 +46,10 @@ impl Laid for Subscription {
         put_nullable_piece(out, &self.user)?;
         Ok(())
     }
+}
 
+/// Of what stands behind the version.
+impl Laid for Subscription {
     fn read(alloc: Global, cursor: &mut Cursor) -> Result<Subscription, PrimNo> {
         let topic = Items::read(alloc, cursor)?;
         let user = read_nullable_piece(alloc, cursor)?;

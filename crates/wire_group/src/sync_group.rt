@@ -5,7 +5,7 @@ ghost use Rattle.wire_group.specs.SyncGroup.{sync_group_request, sync_group_requ
 
 use gate_io::{Items, Text, Want};
 use std::alloc::Global;
-use wire_layout::{Laid, WireNo, put_piece, read_piece, read_whole, size_of_piece, write_whole};
+use wire_layout::{Laid, Message, Put, WireNo, put_piece, read_piece, read_whole, write_whole};
 use wire_prim::{Cursor, PrimNo};
 
 /// A member asks for its share, and the leader gives out the shares: `group_id`, `generation_id`, `member_id`, and
@@ -34,16 +34,8 @@ impl SyncGroupRequest {
     }
 }
 
-impl Laid for SyncGroupRequest {
+impl Put for SyncGroupRequest {
     ghost layout = { sync_group_request };
-
-    fn size(&self) -> usize {
-        self.group
-            .size()
-            .saturating_add(self.generation.size())
-            .saturating_add(self.member.size())
-            .saturating_add(self.rows.size())
-    }
 
     fn put(&self, out: &mut Vec<u8>) -> Result<(), Want> {
         self.group.put(out)?;
@@ -52,7 +44,9 @@ impl Laid for SyncGroupRequest {
         self.rows.put(out)?;
         Ok(())
     }
+}
 
+impl Laid for SyncGroupRequest {
     fn read(alloc: Global, cursor: &mut Cursor) -> Result<SyncGroupRequest, PrimNo> {
         let group = Text::read(alloc, cursor)?;
         let generation = i32::read(alloc, cursor)?;
@@ -69,6 +63,8 @@ impl Laid for SyncGroupRequest {
     ghost laid = { sync_group_request_laid };
 }
 
+impl Message for SyncGroupRequest {}
+
 /// A member's share, an `Assignment` (`SyncGroupRequestAssignment`). `member` is `member_id`.
 #[derive(Drop)]
 pub struct SyncGroupRequestRow {
@@ -76,21 +72,17 @@ pub struct SyncGroupRequestRow {
     pub assignment: Items<u8>,
 }
 
-impl Laid for SyncGroupRequestRow {
+impl Put for SyncGroupRequestRow {
     ghost layout = { sync_group_request_row };
-
-    fn size(&self) -> usize {
-        self.member
-            .size()
-            .saturating_add(size_of_piece(&self.assignment))
-    }
 
     fn put(&self, out: &mut Vec<u8>) -> Result<(), Want> {
         self.member.put(out)?;
         put_piece(out, &self.assignment)?;
         Ok(())
     }
+}
 
+impl Laid for SyncGroupRequestRow {
     fn read(alloc: Global, cursor: &mut Cursor) -> Result<SyncGroupRequestRow, PrimNo> {
         let member = Text::read(alloc, cursor)?;
         let assignment = read_piece(alloc, cursor)?;
@@ -123,21 +115,17 @@ impl SyncGroupResponse {
     }
 }
 
-impl Laid for SyncGroupResponse {
+impl Put for SyncGroupResponse {
     ghost layout = { sync_group_response };
-
-    fn size(&self) -> usize {
-        self.code
-            .size()
-            .saturating_add(size_of_piece(&self.assignment))
-    }
 
     fn put(&self, out: &mut Vec<u8>) -> Result<(), Want> {
         self.code.put(out)?;
         put_piece(out, &self.assignment)?;
         Ok(())
     }
+}
 
+impl Laid for SyncGroupResponse {
     fn read(alloc: Global, cursor: &mut Cursor) -> Result<SyncGroupResponse, PrimNo> {
         let code = i16::read(alloc, cursor)?;
         let assignment = read_piece(alloc, cursor)?;
@@ -146,3 +134,5 @@ impl Laid for SyncGroupResponse {
 
     ghost laid = { sync_group_response_laid };
 }
+
+impl Message for SyncGroupResponse {}

@@ -4,7 +4,7 @@ ghost use Rattle.wire_group.specs.Versioned.{IsVersionedRead, IsVersionedWritten
 
 use gate_io::Want;
 use std::alloc::Global;
-use wire_layout::{Laid, WireNo, refusal_of};
+use wire_layout::{Laid, Put, WireNo, refusal_of};
 use wire_prim::{Cursor, PrimNo, put_int16};
 
 /// Reads a version from 0 on and the fields behind it. Further bytes are left aside in a version above 0.
@@ -34,12 +34,10 @@ pub fn read_versioned<T: Laid + Drop>(alloc: Global, bytes: &[u8]) -> Result<T, 
 }
 
 /// Writes version 0 and the fields.
-pub fn write_versioned<T: Laid>(alloc: Global, value: &T) -> Result<Vec<u8>, Want>
+pub fn write_versioned<T: Put>(alloc: Global, value: &T) -> Result<Vec<u8>, Want>
     ensures { IfOk result (λ out. IsVersionedWritten T.layout value.now out.items) }
 {
-    let Ok(mut out) = Vec::with_capacity(alloc, value.size().saturating_add(2)) else {
-        return Err(Want);
-    };
+    let mut out = Vec::new(alloc);
     put_int16(&mut out, 0)?;
     value.put(&mut out)?;
     if out.len() > 0x7fff_ffff {

@@ -1,3 +1,4 @@
 pub mod Loops
+pub mod Places
 pub mod Refusals
 pub mod Rows

@@ -4,8 +4,7 @@ use Rattle.std.proofs.lemmas.List.{take_more}
 use Rattle.wire_prim.specs.declared.error.PrimNo.{PrimNo}
 use Rattle.wire_prim.specs.declared.error.PrimNo.TheVariants.{Want}
 use Rattle.wire_prim.specs.Reading.{Reading, Takes}
-use Rattle.wire_prim.specs.Behind.{Behind, behind_many}
-use Rattle.wire_layout.specs.Layout.{spelled, each}
+use Rattle.wire_layout.specs.Layout.{Reach, behind_many, spelled, each}
 
 pub spelled_more : {T : Type 0} (spelling : T → List ℕ) (items : List T) (item : T) → spelled spelling (items ++ item ∷ []) ≡ spelled spelling items ++ spelling item
 spelled_more spelling [] item = append-nil (spelling item)
@@ -40,15 +39,15 @@ taken_more spelling items item start before after so_far now =
 many_left : (count i : ℕ) → i < count → count - i ≡ suc (count - (i + 1))
 many_left count i below = omega arith
 
-pub many_more : (count i : ℕ) (item : List ℕ → Behind) (start before after : List ℕ) → i < count → behind_many count item start ≡ behind_many (count - i) item before → item before ≡ Ok after
+pub many_more : (count i : ℕ) (item : List ℕ → Reach) (start before after : List ℕ) → i < count → behind_many count item start ≡ behind_many (count - i) item before → item before ≡ Ok after
     → behind_many count item start ≡ behind_many (count - (i + 1)) item after
 many_more count i item start before after below so_far now = so_far ∙ rw (many_left count i below, now) refl
 
-many_stops : (count i : ℕ) (item : List ℕ → Behind) (start before : List ℕ) (cause : PrimNo) → i < count → behind_many count item start ≡ behind_many (count - i) item before → item before ≡ Err cause
-    → behind_many count item start ≡ Err cause
-many_stops count i item start before cause below so_far now = so_far ∙ rw (many_left count i below, now) refl
+many_stops : (count i : ℕ) (item : List ℕ → Reach) (start before left : List ℕ) (cause : PrimNo) → i < count → behind_many count item start ≡ behind_many (count - i) item before → item before ≡ Err (cause, left)
+    → behind_many count item start ≡ Err (cause, left)
+many_stops count i item start before left cause below so_far now = so_far ∙ rw (many_left count i below, now) refl
 
-pub many_refused : (count i : ℕ) (item : List ℕ → Behind) (start before : List ℕ) (cause : PrimNo) → i < count → behind_many count item start ≡ behind_many (count - i) item before → (cause ≡ Want) ⊎ (item before ≡ Err cause)
-    → (cause ≡ Want) ⊎ (behind_many count item start ≡ Err cause)
-many_refused count i item start before cause below so_far (inl want) = inl want
-many_refused count i item start before cause below so_far (inr now) = inr (many_stops count i item start before cause below so_far now)
+pub many_refused : (count i : ℕ) (item : List ℕ → Reach) (start before left : List ℕ) (cause : PrimNo) → i < count → behind_many count item start ≡ behind_many (count - i) item before → (cause ≡ Want) ⊎ (item before ≡ Err (cause, left))
+    → (cause ≡ Want) ⊎ (behind_many count item start ≡ Err (cause, left))
+many_refused count i item start before left cause below so_far (inl want) = inl want
+many_refused count i item start before left cause below so_far (inr now) = inr (many_stops count i item start before left cause below so_far now)

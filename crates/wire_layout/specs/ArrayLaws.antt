@@ -2,9 +2,9 @@
 use Rattle.std.proofs.Common.{◌≡◌, ℕ, ◌<◌, ◌^◌, List, [], ◌∷◌, ◌++◌, length, Ok, ℤ, pos, negsuc, Option, None, Some, FitsSigned, refl, sym, ap, ◌∙◌, arith, append_assoc}
 use Rattle.std.specs.Int.{w32}
 use Rattle.wire_prim.specs.Item.{int32_bytes, count_item}
-use Rattle.wire_prim.specs.Behind.{Behind, behind_many, behind_int32, int32_at, next}
+use Rattle.wire_prim.specs.Behind.{behind_count, behind_nullable_count, count_at, nullable_count_at}
 use Rattle.wire_prim.proofs.Readback.{behind_append, int32_at_front, same_front, int32_once, count_once}
-use Rattle.wire_layout.specs.Layout.{Layout, spelled, each, array_bytes, behind_items, behind_nullable_items, array, nullable_array, IsArray}
+use Rattle.wire_layout.specs.Layout.{Layout, Reach, placed, next, behind_many, behind_some, spelled, each, array_bytes, array, nullable_array, IsArray}
 use Rattle.wire_layout.specs.Laid.{IsLaid}
 
 many_back : {T : Type 0} (item : Layout T) (laid : IsLaid item) (items : List T) (rest : List ℕ) → each item.fits items
@@ -25,15 +25,24 @@ many_once item laid (x ∷ xs) (y ∷ ys) r s size fits fits' same =
     let whole : x ∷ xs ≡ y ∷ ys = cc (first.0, others.0) in
     (whole, others.1)
 
--- what follows a length that is there
-sized : (size : ℤ) (rest : List ℕ) (body : ℤ → List ℕ → Behind) → FitsSigned w32 size → next (behind_int32 (int32_bytes size ++ rest)) (body (int32_at (int32_bytes size ++ rest))) ≡ body size rest
-sized size rest body fits = rw (behind_append (int32_bytes size) rest, int32_at_front size rest fits) refl
-
 fits32 : (n : ℕ) → n < 2 ^ 31 → FitsSigned w32 (pos n)
 fits32 n small = record { sfits = small }
 
 null32 : FitsSigned w32 (negsuc 0)
 null32 = record { sfits = omega arith }
+
+-- how far the values behind a count reach
+counted : (n : ℕ) (rest : List ℕ) (body : ℕ → List ℕ → Reach) → n < 2 ^ 31
+    → next (placed (behind_count (int32_bytes (pos n) ++ rest)) (int32_bytes (pos n) ++ rest)) (body (count_at (int32_bytes (pos n) ++ rest))) ≡ body n rest
+counted n rest body few = rw (behind_append (int32_bytes (pos n)) rest, int32_at_front (pos n) rest (fits32 n few)) refl
+
+some_counted : (n : ℕ) (rest : List ℕ) (body : Option ℕ → List ℕ → Reach) → n < 2 ^ 31
+    → next (placed (behind_nullable_count (int32_bytes (pos n) ++ rest)) (int32_bytes (pos n) ++ rest)) (body (nullable_count_at (int32_bytes (pos n) ++ rest))) ≡ body (Some n) rest
+some_counted n rest body few = rw (behind_append (int32_bytes (pos n)) rest, int32_at_front (pos n) rest (fits32 n few)) refl
+
+none_counted : (rest : List ℕ) (body : Option ℕ → List ℕ → Reach)
+    → next (placed (behind_nullable_count (int32_bytes (negsuc 0) ++ rest)) (int32_bytes (negsuc 0) ++ rest)) (body (nullable_count_at (int32_bytes (negsuc 0) ++ rest))) ≡ body None rest
+none_counted rest body = rw (behind_append (int32_bytes (negsuc 0)) rest) refl
 
 array_once : {T : Type 0} (item : Layout T) (laid : IsLaid item) (a b : List T) (r s : List ℕ) → IsArray item.fits a → IsArray item.fits b
     → array_bytes item.spelling a ++ r ≡ array_bytes item.spelling b ++ s → (a ≡ b) × (r ≡ s)
@@ -47,17 +56,17 @@ unfolding array
 array_laid item laid = record {
   back = λ items fits rest.
       let moved = append_assoc (count_item (length items)) (spelled item.spelling items) rest in
-      rw moved (sized (pos (length items)) (spelled item.spelling items ++ rest) (λ n left. behind_items n item.behind left) (fits32 _ fits.few) ∙ many_back item laid items rest fits.each);
+      rw moved (counted (length items) (spelled item.spelling items ++ rest) (λ n left. behind_many n item.behind left) fits.few ∙ many_back item laid items rest fits.each);
   once = array_once item laid;
 }
 
 nullable_back : {T : Type 0} (item : Layout T) (laid : IsLaid item) (items : Option (List T)) (rest : List ℕ) → (nullable_array item).fits items
     → (nullable_array item).behind ((nullable_array item).spelling items ++ rest) ≡ Ok rest
 unfolding nullable_array
-nullable_back item laid None rest fits = sized (negsuc 0) rest (λ n left. behind_nullable_items n item.behind left) null32
+nullable_back item laid None rest fits = none_counted rest (λ n left. behind_some n item.behind left)
 nullable_back item laid (Some items) rest fits =
     let moved = append_assoc (count_item (length items)) (spelled item.spelling items) rest in
-    rw moved (sized (pos (length items)) (spelled item.spelling items ++ rest) (λ n left. behind_nullable_items n item.behind left) (fits32 _ fits.few) ∙ many_back item laid items rest fits.each)
+    rw moved (some_counted (length items) (spelled item.spelling items ++ rest) (λ n left. behind_some n item.behind left) fits.few ∙ many_back item laid items rest fits.each)
 
 -- null is told apart from what is there by the length
 no_null : (n : ℕ) (r s : List ℕ) → n < 2 ^ 31 → int32_bytes (negsuc 0) ++ r ≡ int32_bytes (pos n) ++ s → ⊥

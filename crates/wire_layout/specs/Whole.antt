@@ -1,12 +1,13 @@
 -- A whole message, read and written.
-use Rattle.std.specs.Prelude.{ℕ, ◌≡◌, ◌+◌, ◌<◌, ◌^◌, List, [], ◌++◌, length, drop, Result, Ok, Err, IfOk, IsOkAnd}
+use Rattle.std.specs.Prelude.{ℕ, ◌≡◌, ◌+◌, ◌-◌, ◌<◌, ◌^◌, ◌⊎◌, List, [], ◌++◌, length, drop, Result, Ok, Err, IfOk, IsOkAnd}
 use Rattle.wire_prim.specs.declared.error.PrimNo.{PrimNo}
 use Rattle.wire_prim.specs.declared.error.PrimNo.TheVariants as No
 use Rattle.wire_prim.specs.Behind.{Behind}
 use Rattle.wire_layout.specs.declared.error.WireNo.{WireNo}
+use Rattle.wire_layout.specs.declared.error.Refusal.{Refusal}
 use Rattle.wire_layout.specs.declared.error.WireNo.TheVariants.{Prim, Rest, Want}
 use Rattle.wire_prim.specs.Item.{bytes_item}
-use Rattle.wire_layout.specs.Layout.{Layout}
+use Rattle.wire_layout.specs.Layout.{Layout, Reach, left_of, without_place}
 
 -- the answer is the one that the bytes give: nothing is left, an item doesn't read, or so many bytes are left
 abbrev pub Ends : {M : Type 0} → Result M WireNo → Behind → Type 0
@@ -31,7 +32,7 @@ IsOrWants (Err Want) wanted = Unit {0}
 pub record IsRead {M : Type 0} (layout : Layout M) (whole : List ℕ) (result : Result M WireNo) : Type 0 where
   pub value : IfOk result (λ m. whole ≡ layout.spelling m)
   pub fits : IfOk result layout.fits
-  pub answer : Ends result (layout.behind whole)
+  pub answer : Ends result (without_place (layout.behind whole))
   pub exact : (m : M) → layout.fits m → whole ≡ layout.spelling m → IsOrWants result m
 
 -- the answer is the one that the bytes give where more may follow
@@ -52,8 +53,17 @@ IsFrontOrWants (Err Want) wanted size = Unit {0}
 pub record IsReadInFront {M : Type 0} (layout : Layout M) (whole : List ℕ) (result : Result (M × ℕ) WireNo) : Type 0 where
   pub value : IfOk result (λ found. (whole ≡ layout.spelling found.0 ++ drop found.1 whole) × (found.1 ≡ length (layout.spelling found.0)))
   pub fits : IfOk result (λ found. layout.fits found.0)
-  pub answer : EndsInFront result (layout.behind whole) whole
+  pub answer : EndsInFront result (without_place (layout.behind whole)) whole
   pub exact : (m : M) (rest : List ℕ) → layout.fits m → whole ≡ layout.spelling m ++ rest → IsFrontOrWants result m (length (layout.spelling m))
+
+-- an answer without the place of its refusal
+abbrev pub cause_alone : {M : Type 0} → Result M Refusal → Result M WireNo
+cause_alone (Ok m) = Ok m
+cause_alone (Err refusal) = Err refusal.cause
+
+-- a refusal stands at the first byte of the item that doesn't read, or at the first that is left over; want of memory has no place
+abbrev pub IsPlaced : Refusal → Reach → List ℕ → Type 0
+IsPlaced refusal reach whole = (refusal.cause ≡ Want) ⊎ (refusal.place ≡ length whole - length (left_of reach))
 
 -- the bytes are the spelling of the value, which has one, and leave room for that many more in a frame
 pub record IsWritten {M : Type 0} (layout : Layout M) (head : ℕ) (m : M) (out : List ℕ) : Type 0 where

@@ -1,25 +1,15 @@
 //! Arrays of a message.
 ghost use Rattle.std.specs.Prelude.{◌≡◌, ◌++◌, length, IfOk, OnOk};
 ghost use Rattle.wire_prim.specs.Reading.{Takes};
-ghost use Rattle.wire_prim.specs.Behind.{AnswersOrWants, behind_many};
-ghost use Rattle.wire_layout.specs.Layout.{array, each, nullable_array, spelled};
+ghost use Rattle.wire_layout.specs.Layout.{ReachesOrWants, array, behind_many, each, nullable_array, spelled};
 ghost use Rattle.wire_layout.specs.ArrayLaws.{array_laid, nullable_array_laid};
 
-use crate::laid::Laid;
+use crate::laid::{Laid, Put};
 use gate_io::{Items, Want};
 use std::alloc::Global;
 use wire_prim::{Cursor, PrimNo, put_count, put_int32};
 
-// How many bytes the items have, one after another.
-fn size_of_items<T: Laid>(items: &[T]) -> usize {
-    let mut size = 0usize;
-    for item in items {
-        size = size.saturating_add(item.size());
-    }
-    size
-}
-
-fn put_items<T: Laid>(out: &mut Vec<u8>, items: &[T]) -> Result<(), Want>
+fn put_items<T: Put>(out: &mut Vec<u8>, items: &[T]) -> Result<(), Want>
     ensures ok { OnOk result (out.new.items ≡ out.old.items ++ spelled T.layout.spelling items.now) }
     ensures fits { OnOk result (each T.layout.fits items.now) }
 {
@@ -37,7 +27,7 @@ fn read_items<T: Laid + Drop>(
     ensures value { IfOk result (λ items. Takes (spelled T.layout.spelling items) cursor.old cursor.new) }
     ensures fits { IfOk result (λ items. each T.layout.fits items) }
     ensures count { IfOk result (λ items. length items ≡ count) }
-    ensures answer { AnswersOrWants result (behind_many count T.layout.behind cursor.old.left) cursor.new.left }
+    ensures answer { ReachesOrWants result (behind_many count T.layout.behind cursor.old.left) cursor.new.left }
 {
     let mut items = Items::new(alloc);
     for _ in 0..count {
@@ -51,12 +41,8 @@ fn read_items<T: Laid + Drop>(
 }
 
 #[tactic(auto, unfolding(crate::specs::Layout::array))]
-impl<T: Laid + Drop> Laid for Items<T> {
+impl<T: Put> Put for Items<T> {
     ghost layout = { array T.layout };
-
-    fn size(&self) -> usize {
-        size_of_items(self.as_slice()).saturating_add(4)
-    }
 
     fn put(&self, out: &mut Vec<u8>) -> Result<(), Want> {
         let items = self.as_slice();
@@ -66,28 +52,21 @@ impl<T: Laid + Drop> Laid for Items<T> {
         put_count(out, items.len() as u32)?;
         put_items(out, items)
     }
+}
 
+#[tactic(auto, unfolding(crate::specs::Layout::array))]
+impl<T: Laid + Drop> Laid for Items<T> {
     fn read(alloc: Global, cursor: &mut Cursor) -> Result<Items<T>, PrimNo> {
-        let size = cursor.int32()?;
-        if size < 0 {
-            return Err(PrimNo::Negative);
-        }
-        read_items(alloc, cursor, size as u32)
+        let count = cursor.count()?;
+        read_items(alloc, cursor, count)
     }
 
     ghost laid = { array_laid T.layout T.laid };
 }
 
 #[tactic(auto, unfolding(crate::specs::Layout::nullable_array, crate::specs::Layout::array))]
-impl<T: Laid + Drop> Laid for Option<Items<T>> {
+impl<T: Put> Put for Option<Items<T>> {
     ghost layout = { nullable_array T.layout };
-
-    fn size(&self) -> usize {
-        match self {
-            Some(items) => items.size(),
-            None => 4,
-        }
-    }
 
     fn put(&self, out: &mut Vec<u8>) -> Result<(), Want> {
         match self {
@@ -95,16 +74,15 @@ impl<T: Laid + Drop> Laid for Option<Items<T>> {
             None => put_int32(out, -1),
         }
     }
+}
 
+#[tactic(auto, unfolding(crate::specs::Layout::nullable_array))]
+impl<T: Laid + Drop> Laid for Option<Items<T>> {
     fn read(alloc: Global, cursor: &mut Cursor) -> Result<Option<Items<T>>, PrimNo> {
-        let size = cursor.int32()?;
-        if size == -1 {
+        let Some(count) = cursor.nullable_count()? else {
             return Ok(None);
-        }
-        if size < 0 {
-            return Err(PrimNo::Negative);
-        }
-        let items = read_items(alloc, cursor, size as u32)?;
+        };
+        let items = read_items(alloc, cursor, count)?;
         Ok(Some(items))
     }
 

@@ -11,3 +11,11 @@ pub enum WireNo {
     /// There was no memory.
     Want,
 }
+
+/// A refusal with its place.
+#[derive(Clone, Copy)]
+pub struct Refusal {
+    pub cause: WireNo,
+    /// How many bytes stand before the item that doesn't read, or before the first byte left over.
+    pub place: usize,
+}

@@ -3,23 +3,22 @@ ghost use Rattle.std.specs.Prelude.{◌≡◌};
 ghost use Rattle.wire_layout.specs.Layout.{int8, int16, int32, int64, string, nullable_string};
 ghost use Rattle.wire_layout.specs.ItemLaws.{int8_laid, int16_laid, int32_laid, int64_laid, string_laid, nullable_string_laid};
 
-use crate::laid::Laid;
+use crate::laid::{Laid, Put};
 use gate_io::{Text, Want};
 use std::alloc::Global;
 use wire_prim::{Cursor, PrimNo, put_int8, put_int16, put_int32, put_int64, put_string};
 
 #[tactic(auto, unfolding(crate::specs::Layout::int8))]
-impl Laid for i8 {
+impl Put for i8 {
     ghost layout = { int8 };
-
-    fn size(&self) -> usize {
-        1
-    }
 
     fn put(&self, out: &mut Vec<u8>) -> Result<(), Want> {
         put_int8(out, *self)
     }
+}
 
+#[tactic(auto, using(crate::proofs::Places::reaches), unfolding(crate::specs::Layout::int8))]
+impl Laid for i8 {
     fn read(alloc: Global, cursor: &mut Cursor) -> Result<i8, PrimNo> {
         let _ = alloc;
         cursor.int8()
@@ -29,17 +28,16 @@ impl Laid for i8 {
 }
 
 #[tactic(auto, unfolding(crate::specs::Layout::int16))]
-impl Laid for i16 {
+impl Put for i16 {
     ghost layout = { int16 };
-
-    fn size(&self) -> usize {
-        2
-    }
 
     fn put(&self, out: &mut Vec<u8>) -> Result<(), Want> {
         put_int16(out, *self)
     }
+}
 
+#[tactic(auto, using(crate::proofs::Places::reaches), unfolding(crate::specs::Layout::int16))]
+impl Laid for i16 {
     fn read(alloc: Global, cursor: &mut Cursor) -> Result<i16, PrimNo> {
         let _ = alloc;
         cursor.int16()
@@ -49,17 +47,16 @@ impl Laid for i16 {
 }
 
 #[tactic(auto, unfolding(crate::specs::Layout::int32))]
-impl Laid for i32 {
+impl Put for i32 {
     ghost layout = { int32 };
-
-    fn size(&self) -> usize {
-        4
-    }
 
     fn put(&self, out: &mut Vec<u8>) -> Result<(), Want> {
         put_int32(out, *self)
     }
+}
 
+#[tactic(auto, using(crate::proofs::Places::reaches), unfolding(crate::specs::Layout::int32))]
+impl Laid for i32 {
     fn read(alloc: Global, cursor: &mut Cursor) -> Result<i32, PrimNo> {
         let _ = alloc;
         cursor.int32()
@@ -69,17 +66,16 @@ impl Laid for i32 {
 }
 
 #[tactic(auto, unfolding(crate::specs::Layout::int64))]
-impl Laid for i64 {
+impl Put for i64 {
     ghost layout = { int64 };
-
-    fn size(&self) -> usize {
-        8
-    }
 
     fn put(&self, out: &mut Vec<u8>) -> Result<(), Want> {
         put_int64(out, *self)
     }
+}
 
+#[tactic(auto, using(crate::proofs::Places::reaches), unfolding(crate::specs::Layout::int64))]
+impl Laid for i64 {
     fn read(alloc: Global, cursor: &mut Cursor) -> Result<i64, PrimNo> {
         let _ = alloc;
         cursor.int64()
@@ -89,12 +85,8 @@ impl Laid for i64 {
 }
 
 #[tactic(auto, unfolding(crate::specs::Layout::string))]
-impl Laid for Text {
+impl Put for Text {
     ghost layout = { string };
-
-    fn size(&self) -> usize {
-        self.as_bytes().len().saturating_add(2)
-    }
 
     fn put(&self, out: &mut Vec<u8>) -> Result<(), Want> {
         let text = self.as_str();
@@ -103,29 +95,21 @@ impl Laid for Text {
         }
         put_string(out, text)
     }
+}
 
+#[tactic(auto, using(crate::proofs::Places::stops), unfolding(crate::specs::Layout::string))]
+impl Laid for Text {
     fn read(alloc: Global, cursor: &mut Cursor) -> Result<Text, PrimNo> {
-        let size = cursor.int16()?;
-        let text = match cursor.text(i32::from(size)) {
-            Ok(text) => text,
-            Err(cause) => return Err(cause),
-        };
-        Ok(Text::from_str(alloc, text)?)
+        let text = cursor.string(alloc)?;
+        Ok(Text::from_string(text))
     }
 
     ghost laid = { string_laid };
 }
 
 #[tactic(auto, unfolding(crate::specs::Layout::nullable_string, crate::specs::Layout::string))]
-impl Laid for Option<Text> {
+impl Put for Option<Text> {
     ghost layout = { nullable_string };
-
-    fn size(&self) -> usize {
-        match self {
-            Some(text) => text.size(),
-            None => 2,
-        }
-    }
 
     fn put(&self, out: &mut Vec<u8>) -> Result<(), Want> {
         match self {
@@ -133,17 +117,15 @@ impl Laid for Option<Text> {
             None => put_int16(out, -1),
         }
     }
+}
 
+#[tactic(auto, using(crate::proofs::Places::stops), unfolding(crate::specs::Layout::nullable_string))]
+impl Laid for Option<Text> {
     fn read(alloc: Global, cursor: &mut Cursor) -> Result<Option<Text>, PrimNo> {
-        let size = cursor.int16()?;
-        if size == -1 {
-            return Ok(None);
+        match cursor.nullable_string(alloc)? {
+            Some(text) => Ok(Some(Text::from_string(text))),
+            None => Ok(None),
         }
-        let text = match cursor.text(i32::from(size)) {
-            Ok(text) => text,
-            Err(cause) => return Err(cause),
-        };
-        Ok(Some(Text::from_str(alloc, text)?))
     }
 
     ghost laid = { nullable_string_laid };

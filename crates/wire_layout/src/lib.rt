@@ -8,10 +8,10 @@ mod item;
 mod laid;
 mod whole;
 
-pub use bytes::{
-    put_nullable_piece, put_piece, read_nullable_piece, read_piece, size_of_nullable_piece,
-    size_of_piece,
+pub use bytes::{put_nullable_piece, put_piece, read_nullable_piece, read_piece};
+pub use error::{Refusal, WireNo};
+pub use laid::{Laid, Message, Put};
+pub use whole::{
+    length_of, read_front, read_front_placed, read_whole, read_whole_placed, refusal_at,
+    refusal_of, write_frame, write_whole,
 };
-pub use error::WireNo;
-pub use laid::Laid;
-pub use whole::{read_front, read_whole, refusal_of, write_frame, write_whole};

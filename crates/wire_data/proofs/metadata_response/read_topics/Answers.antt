@@ -3,7 +3,7 @@ use Rattle.wire_data.proofs.Topics.{told_more}
 use Rattle.wire_data.proofs.metadata_response.read_topics.Goals as goal
 
 pub returns-in-Err-clause-answer : goal.returns-in-Err-clause-answer
-returns-in-Err-clause-answer c = many_refused c.args.count c.loop.counter _ _ _ _ c.loop-test.true c.loop.invariant.behind c.in-Err.ensures.answer
+returns-in-Err-clause-answer c = many_refused c.args.count c.loop.counter _ _ _ _ _ c.loop-test.true c.loop.invariant.behind c.in-Err.ensures.answer
 
 pub loop-preserved : goal.loop-preserved
 loop-preserved c =

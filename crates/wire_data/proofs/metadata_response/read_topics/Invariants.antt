@@ -1,5 +1,5 @@
 use Rattle.std.proofs.Common.{◌≡◌, ◌-◌}
-use Rattle.wire_prim.specs.Behind.{behind_many}
+use Rattle.wire_layout.specs.Layout.{behind_many}
 use Rattle.wire_data.specs.MetadataResponse.{AreTold, stored_topic}
 use Rattle.wire_data.proofs.metadata_response.read_topics.Given as goal
 

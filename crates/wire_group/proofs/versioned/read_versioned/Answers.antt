@@ -10,7 +10,7 @@ returns-then-version-gt0 g c =
     let start = ap (λ (r : Reading). r.left) c.new-cursor.ensures in
     let small : FitsSigned w16 c.in-Ok.version = search rules in
     let above : pos 0 ≤ℤ c.in-Ok.version = omega (arith, ints) in
-    versioned_read g.T.Laid.layout g.met.T.Laid.laid c.args.bytes.now _ _ c.in-Ok.version c.in-Ok-read.value small above
+    versioned_read g.T.Put.layout g.met.T.Laid.laid c.args.bytes.now _ _ c.in-Ok.version c.in-Ok-read.value small above
     (rw start at c.in-Ok.ensures.value.left) (rw start at c.in-Ok.ensures.answer) (rw start at c.in-Ok.ensures.at)
     c.in-Ok-read.ensures.value.left c.in-Ok-read.ensures.fits c.in-Ok-read.ensures.answer (λ zero. absurd (omega (arith, ints, zero)))
 
@@ -20,6 +20,6 @@ returns g c =
     let small : FitsSigned w16 c.in-Ok.version = search rules in
     let above : pos 0 ≤ℤ c.in-Ok.version = omega (arith, ints) in
     let none = empty_is _ (omega arith) in
-    versioned_read g.T.Laid.layout g.met.T.Laid.laid c.args.bytes.now _ _ c.in-Ok.version c.in-Ok-read.value small above
+    versioned_read g.T.Put.layout g.met.T.Laid.laid c.args.bytes.now _ _ c.in-Ok.version c.in-Ok-read.value small above
     (rw start at c.in-Ok.ensures.value.left) (rw start at c.in-Ok.ensures.answer) (rw start at c.in-Ok.ensures.at)
     c.in-Ok-read.ensures.value.left c.in-Ok-read.ensures.fits c.in-Ok-read.ensures.answer (λ zero. none)

@@ -1,5 +1,5 @@
 use Rattle.std.proofs.Common.{append_assoc}
-use Rattle.wire_group.proofs.join_group.JoinGroupRequestLaid.put.Goals as goal
+use Rattle.wire_group.proofs.join_group.JoinGroupRequestPut.put.Goals as goal
 
 pub returns-clause-ok : goal.returns-clause-ok
 returns-clause-ok c =
