@@ -1,5 +1,5 @@
 -- From what a datum's reading and its verdict say, to its spellings.
-use Rattle.std.proofs.Common.{◌≡◌, ℕ, List, Result, Ok, Err, sym, ◌∙◌, inl, inr}
+use Rattle.std.proofs.Common.{◌≡◌, ◌++◌, [], ℕ, List, Result, Ok, Err, sym, ap, ◌∙◌, subst, inl, inr}
 use Rattle.std.specs.Prelude.{IfOk, IfErr, OnOk, MatchResult}
 use Rattle.avro_schema.specs.Types.{AvroType}
 use Rattle.avro_datum.specs.declared.error.AvroNo.{AvroNo}
@@ -42,3 +42,13 @@ written_only whole v (Err e) is bs spells small = only_want whole v bs e spells 
 pub written_refusal : {X : Type 0} (whole : AvroType) (v : Value) (r : Result X AvroNo) → IsWritten whole v r → IfErr r (λ e. Fails e (verdict whole v))
 written_refusal whole v (Ok out) is = tt
 written_refusal whole v (Err e) is = is
+
+-- what is written behind nothing
+pub written_fresh : {X : Type 0} (r : Result X AvroNo) (items : X → List ℕ) (front bs : List ℕ) → front ≡ [] → IfOk r (λ out. items out ≡ front ++ bs) → IfOk r (λ out. items out ≡ bs)
+written_fresh (Ok out) items front bs empty is = is ∙ ap (λ (f : List ℕ). f ++ bs) empty
+written_fresh (Err e) items front bs empty is = tt
+
+pub fresh_spells : {X : Type 0} (r : Result X AvroNo) (items : X → List ℕ) (whole : AvroType) (v : Value) → IfOk r (λ out. items out ≡ plain v) → OnOk r (IsDatum whole whole v (plain v) × IsSmall v)
+    → IfOk r (λ out. IsDatum whole whole v (items out) × IsSmall v)
+fresh_spells (Ok out) items whole v is spells = (subst (IsDatum whole whole v) (sym is) spells.0, spells.1)
+fresh_spells (Err e) items whole v is spells = tt

@@ -199,24 +199,25 @@ fn put_node(
     }
 }
 
-// The plain spelling behind what was written before, or the first refusal.
+// The plain spelling behind what the buffer holds, or the first refusal.
 #[tactic(auto, unfolding(avro_datum::specs::Judging::verdict))]
-fn write_all(out: &mut Vec<u8>, schema: &Schema, datum: &Datum) -> Result<(), AvroNo>
-    ensures value { OnOk result (out.new.items ≡ out.old.items ++ plain (value_of datum.now)) }
+fn write_all(out: Vec<u8>, schema: &Schema, datum: &Datum) -> Result<Vec<u8>, AvroNo>
+    ensures value { IfOk result (λ bytes. bytes.items ≡ out.items ++ plain (value_of datum.now)) }
     ensures verdict { MatchResult result
         (λ _. (n : ℕ) × (verdict (tree_of schema.now) (value_of datum.now) ≡ Ok n))
         (λ e. Fails e (verdict (tree_of schema.now) (value_of datum.now))) }
 {
-    match put_node(out, schema, schema.root(), MAX_LEVELS, 0, datum) {
-        Ok(_) => Ok(()),
+    let mut out = out;
+    match put_node(&mut out, schema, schema.root(), MAX_LEVELS, 0, datum) {
+        Ok(_) => Ok(out),
         Err(e) => Err(e),
     }
 }
 
-/// Puts the datum's one spelling with shortest varints and one block behind what the buffer holds. After a refusal a part
-/// of it may stand there.
-pub fn encode_into(out: &mut Vec<u8>, schema: &Schema, datum: &Datum) -> Result<(), AvroNo>
-    ensures value { OnOk result (out.new.items ≡ out.old.items ++ plain (value_of datum.now)) }
+/// Puts the datum's one spelling with shortest varints and one block behind what the buffer holds, and gives the buffer
+/// back. With a refusal the buffer is dropped.
+pub fn encode_into(out: Vec<u8>, schema: &Schema, datum: &Datum) -> Result<Vec<u8>, AvroNo>
+    ensures value { IfOk result (λ bytes. bytes.items ≡ out.items ++ plain (value_of datum.now)) }
     // It is a spelling of the datum, which is within the limits.
     ensures spells { OnOk result (IsDatum (tree_of schema.now) (tree_of schema.now) (value_of datum.now) (plain (value_of datum.now))
         × IsSmall (value_of datum.now)) }
@@ -241,9 +242,5 @@ pub fn encode(alloc: Global, schema: &Schema, datum: &Datum) -> Result<Vec<u8>, 
     // The refusal is that of the first node in preorder that isn't of its schema or passes a limit.
     ensures refusal { IfErr result (λ e. Fails e (verdict (tree_of schema.now) (value_of datum.now))) }
 {
-    let mut out = Vec::new(alloc);
-    match encode_into(&mut out, schema, datum) {
-        Ok(()) => Ok(out),
-        Err(e) => Err(e),
-    }
+    encode_into(Vec::new(alloc), schema, datum)
 }
