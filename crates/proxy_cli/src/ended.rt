@@ -5,7 +5,7 @@ pub enum EndWhy {
     End,
     /// It ended inside a request, which has had no answer and no effect.
     CutShort,
-    /// No request can stand where the next one would: that was answered, and nothing behind it is read.
+    /// No request can stand where the next one would: that was answered, and nothing behind it is.
     BadPlace,
     /// As many requests were answered as a connection may have.
     Limit,
