@@ -1,5 +1,5 @@
 ghost use Rattle.std.specs.Prelude.{◌≡◌, ◌<◌, ◌*◌, ◌^◌, max, ℕ, List, [], IfNone, IfOk, IfSome, All, length, Some, None, true};
-ghost use Rattle.broker_link.specs.Stands.{Goes};
+ghost use Rattle.broker_link.specs.Stands.{Goes, IsOnceAtMost};
 ghost use Rattle.model.specs.World.{Key, nobody};
 ghost use Rattle.model.specs.Entry.{Act};
 ghost use Rattle.model.specs.Entry.Call.{Of, Produce};
@@ -240,6 +240,7 @@ impl<L: Link + Drop> Shard<L> {
         ensures call { (noted result).call ≡ Some (Produce topic.now (batch_of batch)) }
         ensures round { result.round ≡ Some 0 }
         ensures replied { result.reply ≡ None → ⊥ }
+        ensures asked { IsOnceAtMost result.moment (L.stand self.old.link).produces (L.stand self.new.link).produces }
 
         ensures advertise { self.new.advertise ≡ self.old.advertise }
         ensures first { self.new.first ≡ self.old.first }
