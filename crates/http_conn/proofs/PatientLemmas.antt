@@ -8,7 +8,7 @@ use Rattle.std.proofs.Math.Seq.{drop-append_seam}
 use Rattle.httparse.specs.Grammar.{HasNoRequest, MayBecomeRequest}
 use Rattle.httparse.specs.declared.spans.HeaderSpan.{HeaderSpan}
 use Rattle.http_conn.specs.Told.{Comes, StillComes, LastRead}
-use Rattle.http_conn.specs.Next.{IsWaiting, IsInLine, IsShort, NeedsMore, is_line_end}
+use Rattle.http_conn.specs.Next.{IsHeadless, IsInHead, IsInLine, IsShort, NeedsMore, is_line_end}
 use Rattle.http_conn.specs.Stream.{max_head}
 use Rattle.http_conn.specs.Parts.{IsHead}
 use Rattle.http_conn.specs.declared.judge.Head.{Head}
@@ -66,23 +66,23 @@ line_goes_on start held new place line behind is none =
     )
 
 -- a front that may become a head waits
-pub unfinished_waits : (held : List ℕ) → HasNoRequest held → MayBecomeRequest held → length held < max_head → IsWaiting held
+pub unfinished_waits : (held : List ℕ) → HasNoRequest held → MayBecomeRequest held → length held < max_head → IsHeadless held
 unfinished_waits [] none may short = inl refl
 unfinished_waits (b ∷ held) none may short =
-    inr (inr (record { some = omega arith; short = short; none = no_request_no_head (b ∷ held) none; may = may }))
+    inr (record { some = omega arith; short = short; none = no_request_no_head (b ∷ held) none; may = may })
 
 -- reads behind a front that waits, up to the end of a line
 pub head_read_on : {S : Type 0} (left asked : S → Option (List ℕ)) (start held : List ℕ) (first mid last : S)
     → LastRead left asked start first mid NeedsMore → StillComes start (left first) held (left mid)
-    → LastRead left asked held mid last (IsInLine held) → IsWaiting held → LastRead left asked start first last NeedsMore
+    → LastRead left asked held mid last (IsInHead held) → IsHeadless held → LastRead left asked start first last NeedsMore
 head_read_on left asked start held first mid last before comes behind waits =
-    read_on left asked start held first mid last (IsInLine held) NeedsMore before comes behind (λ l line. (held, waits, line))
+    read_on left asked start held first mid last (IsInHead held) NeedsMore before comes behind (λ l line. inr ((held, waits, line.0), line.1))
 
 -- a body that isn't whole
 short_waits : (start held : List ℕ) (headers : List HeaderSpan) (h : Head) → IsHead start headers h → IsShort start (h.spans.len + h.size) held → NeedsMore held
 short_waits start held headers h head short =
     let here : IsHead held headers h = IsHead-behind start held headers h head short.0 in
-    (held, inr (cut_in_body held headers h here short.1), line_starts held)
+    inl (inr (cut_in_body held headers h here short.1))
 
 -- reads behind a head, up to the end of the body
 pub body_read_on : {S : Type 0} (left asked : S → Option (List ℕ)) (start held : List ℕ) (headers : List HeaderSpan) (h : Head) (first mid last : S)

@@ -1,7 +1,7 @@
 -- What stands at the front of the bytes that are still to come.
 use Rattle.std.specs.Prelude.{◌≡◌, ◌⊎◌, ◌++◌, ◌<◌, List, [], ℕ, Bool, true, false, ◌==◌, length}
 use Rattle.std.specs.List.{list_any}
-use Rattle.http_conn.specs.Stream.{IsRequest, IsCut, IsBad}
+use Rattle.http_conn.specs.Stream.{IsRequest, IsCut, IsCutHead, IsBad, max_head}
 use Rattle.http_conn.specs.declared.request.Next.{Next}
 use Rattle.http_conn.specs.declared.request.Next.TheVariants.{Ready, Continue, End, CutShort, Bad}
 
@@ -29,9 +29,17 @@ IsInLine start held = (more : List ℕ) × (held ≡ start ++ more) × (list_any
 abbrev pub IsShort : List ℕ → ℕ → List ℕ → Type 0
 IsShort start total held = ((more : List ℕ) × (held ≡ start ++ more)) × (length held < total)
 
--- what is held but for a line without its end is no whole request, and no bad place
+-- no head is whole yet, and one may still come
+abbrev pub IsHeadless : List ℕ → Type 0
+IsHeadless held = (held ≡ []) ⊎ IsCutHead held
+
+-- what is held waits, or it is a front without a whole head and behind it a line without its end, shorter than the longest head
 abbrev pub NeedsMore : List ℕ → Type 0
-NeedsMore held = (start : List ℕ) × IsWaiting start × IsInLine start held
+NeedsMore held = IsWaiting held ⊎ (((start : List ℕ) × IsHeadless start × IsInLine start held) × (length held < max_head))
+
+-- in the line behind the start, below the longest head
+abbrev pub IsInHead : List ℕ → List ℕ → Type 0
+IsInHead start held = IsInLine start held × (length held < max_head)
 
 -- more may come behind it
 abbrev pub is_open : Next → Bool

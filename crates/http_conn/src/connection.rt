@@ -4,7 +4,7 @@ ghost use Rattle.gate_io.specs.Counts.{Rose};
 ghost use Rattle.rest_codes.specs.Errors.{refusal_of};
 ghost use Rattle.std.specs.List.{list_any};
 ghost use Rattle.http_conn.specs.Told.{Comes, StillComes, LastRead};
-ghost use Rattle.http_conn.specs.Next.{Gives, IsWaiting, IsInLine, IsShort, NeedsMore, is_line_end, is_open};
+ghost use Rattle.http_conn.specs.Next.{Gives, IsWaiting, IsInHead, IsShort, NeedsMore, is_line_end, is_open};
 ghost use Rattle.http_conn.specs.Stream.{max_head, IsRequest};
 ghost use Rattle.http_conn.specs.declared.request.Request.{Request as RequestOf};
 ghost use Rattle.http_conn.specs.Parts.{max_spans};
@@ -116,7 +116,7 @@ fn fill_line<S: Source>(held: &mut Buffer, source: &mut S) -> Result<bool, ConnN
     ensures same { OnOk result (StillComes held.old (S.left source.old) held.new (S.left source.new)) }
     ensures grew { result ≡ Ok true → length held.old < length held.new }
     ensures end { result ≡ Ok false → (held.new ≡ held.old) × IsAtEnd (S.left source.new) }
-    ensures patient { LastRead S.left S.asked held.old source.old source.new (IsInLine held.old) }
+    ensures patient { LastRead S.left S.asked held.old source.old source.new (IsInHead held.old) }
     ensures lost { result ≡ Err ConnNo.ReadFault → (length held.new < max_head)
         × (StillComes held.old (S.left source.old) held.new (S.left source.new)) }
     ensures cause { result ≡ Err ConnNo.ReadFault

@@ -1,7 +1,7 @@
 use Rattle.std.proofs.Common.{◌≡◌, ◌≤◌, ◌<◌, ◌-◌, length, List, ℕ}
 use Rattle.std.specs.Prelude.{◌⊎◌}
 use Rattle.http_conn.specs.Told.{Comes, LastRead}
-use Rattle.http_conn.specs.Next.{IsInLine}
+use Rattle.http_conn.specs.Next.{IsInHead, IsInLine}
 use Rattle.http_conn.specs.Stream.{max_head}
 use Rattle.http_conn.proofs.connection.fill_line.Given as goal
 
@@ -11,7 +11,7 @@ invariant-loop-held g l = record {
   start : l.start ≡ length l.fn.held;
   seen : l.seen ≡ length l.held;
   line : IsInLine l.fn.held l.held;
-  patient : LastRead g.S.Source.left g.S.Source.asked l.fn.held l.fn.source l.source (IsInLine l.fn.held);
+  patient : LastRead g.S.Source.left g.S.Source.asked l.fn.held l.fn.source l.source (IsInHead l.fn.held);
   grown : (l.held ≡ l.fn.held) ⊎ (l.start < l.seen);
   faults : g.S.Source.faults l.fn.source ≤ g.S.Source.faults l.source;
   beside : g.S.Source.beside l.fn.source l.source;

@@ -2,7 +2,7 @@ use Rattle.std.proofs.Common.{◌<◌, subst, List, ℕ, length, arith, refl, in
 use Rattle.http_conn.specs.Front.{FrontIs}
 use Rattle.httparse.specs.Grammar.{HasNoRequest, MayBecomeRequest}
 use Rattle.http_conn.specs.Stream.{max_head}
-use Rattle.http_conn.specs.Next.{IsWaiting, NeedsMore}
+use Rattle.http_conn.specs.Next.{IsHeadless, NeedsMore}
 use Rattle.http_conn.proofs.PatientLemmas.{never_read, head_read_on, unfinished_waits}
 use Rattle.http_conn.proofs.PromptLemmas.{prompt_same, prompt_lost}
 use Rattle.http_conn.proofs.connection.read_head.Goals as goal
@@ -47,7 +47,7 @@ loop-held-preserved g c =
     let none : HasNoRequest c.loop-held.held = subst (λ (l : List ℕ). HasNoRequest l) c.front.ensures c.in-Unfinished.ensures.0 in
     let may : MayBecomeRequest c.loop-held.held = subst (λ (l : List ℕ). MayBecomeRequest l) c.front.ensures c.in-Unfinished.ensures.1 in
     let short : length c.loop-held.held < max_head = omega arith in
-    let waits : IsWaiting c.loop-held.held = unfinished_waits c.loop-held.held none may short in
+    let waits : IsHeadless c.loop-held.held = unfinished_waits c.loop-held.held none may short in
     record {
       same = λ all is. read.same all (was.same all is);
       patient =
@@ -63,7 +63,7 @@ returns-in-Ok-false-clause-patient g c =
     let none : HasNoRequest c.loop-held.held = subst (λ (l : List ℕ). HasNoRequest l) c.front.ensures c.in-Unfinished.ensures.0 in
     let may : MayBecomeRequest c.loop-held.held = subst (λ (l : List ℕ). MayBecomeRequest l) c.front.ensures c.in-Unfinished.ensures.1 in
     let short : length c.loop-held.held < max_head = omega arith in
-    let waits : IsWaiting c.loop-held.held = unfinished_waits c.loop-held.held none may short in
+    let waits : IsHeadless c.loop-held.held = unfinished_waits c.loop-held.held none may short in
     head_read_on g.S.Source.left g.S.Source.asked c.args.held.now c.loop-held.held c.args.source.now c.loop-held.source c.fill_line.new.source
     c.loop-held.invariant.patient c.loop-held.invariant.same c.fill_line.ensures.patient waits
 
@@ -72,6 +72,6 @@ returns-in-Err-clause-patient g c =
     let none : HasNoRequest c.loop-held.held = subst (λ (l : List ℕ). HasNoRequest l) c.front.ensures c.in-Unfinished.ensures.0 in
     let may : MayBecomeRequest c.loop-held.held = subst (λ (l : List ℕ). MayBecomeRequest l) c.front.ensures c.in-Unfinished.ensures.1 in
     let short : length c.loop-held.held < max_head = omega arith in
-    let waits : IsWaiting c.loop-held.held = unfinished_waits c.loop-held.held none may short in
+    let waits : IsHeadless c.loop-held.held = unfinished_waits c.loop-held.held none may short in
     head_read_on g.S.Source.left g.S.Source.asked c.args.held.now c.loop-held.held c.args.source.now c.loop-held.source c.fill_line.new.source
     c.loop-held.invariant.patient c.loop-held.invariant.same c.fill_line.ensures.patient waits
