@@ -1,11 +1,12 @@
 //! Sessions of produces and consumers over two partitions of `orders`. The expected bodies are written by
 //! hand after docs/API.md.
 
-use crate::serve_stream;
 use crate::tests::{WHOLE, story, text};
+use crate::{Ended, serve_stream};
 use broker_link::{Fail as LinkFail, MemLink};
 use desk::AloneDesk;
 use gate_io::{Items, MemClock, MemSink, MemSource, Text};
+use http_conn::ConnNo;
 use std::alloc::Global;
 use std::process::Abort;
 use std::test::Fail;
@@ -552,7 +553,15 @@ fn refusing_link(alloc: Global) -> Result<MemLink, Fail> {
     Ok(link)
 }
 
-/// Serves this input over the link that refuses, and tells what was written.
+/// How many requests came and why there is no further one, and what was written.
+fn told(alloc: Global, ended: Result<Ended, ConnNo>, written: &str) -> Result<String, Fail> {
+    match ended {
+        Ok(Ended { requests, why }) => { Ok(format!(in alloc; "{requests} {why:?}\n{written}")?) }
+        Err(no) => Ok(format!(in alloc; "{no:?}\n{written}")?),
+    }
+}
+
+/// Serves this input over the link that refuses, and tells how it ended.
 fn served(alloc: Global, input: &str) -> Result<String, Fail> {
     let link = refusing_link(alloc)?;
     let advertise = Text::from_str(alloc, "localhost:8082")?;
@@ -561,16 +570,14 @@ fn served(alloc: Global, input: &str) -> Result<String, Fail> {
     let mut source = MemSource::new(bytes, 1_000_000, Vec::new(alloc));
     let mut sink = MemSink::new(alloc, 1_000_000, Vec::new(alloc));
     let mut clock = MemClock::new(0, Vec::new(alloc));
-    match serve_stream(alloc, &mut source, &mut sink, &mut desk, &mut clock) {
-        Ok(_ended) => Ok(String::from_str(alloc, text(sink.written()))?),
-        Err(no) => Ok(format!(in alloc; "{no:?}")?),
-    }
+    let ended = serve_stream(alloc, &mut source, &mut sink, &mut desk, &mut clock);
+    told(alloc, ended, text(sink.written()))
 }
 
 #[test]
 fn a_produce_that_the_broker_refuses_stores_nothing(rt: HostRuntime) -> Result<(), Fail> {
     let input = requests_of(rt.alloc(), &REFUSED)?;
-    let wanted = responses_of(rt.alloc(), "", &REFUSED)?;
+    let wanted = responses_of(rt.alloc(), "2 End\n", &REFUSED)?;
     let told = served(rt.alloc(), input.as_str())?;
     assert_eq!(rt; told.as_str(), wanted.as_str());
     Ok(())
