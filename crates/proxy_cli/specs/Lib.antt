@@ -3,5 +3,3 @@ pub mod Served
 pub mod Session
 pub mod Status
 pub mod Turn
-pub mod Words
-pub mod WordsRead

@@ -14,8 +14,8 @@ use Rattle.desk.specs.Stepping.{never}
 use Rattle.proxy_cli.specs.Ended.{TellsEnd}
 use Rattle.proxy_cli.specs.declared.ended.Ended.{Ended}
 use Rattle.proxy_cli.specs.Served.{Answering, Gateway, OrWant, closes, responses}
-use Rattle.proxy_cli.specs.Words.{advertise_of, plans_of, words_of}
-use Rattle.proxy_cli.specs.declared.words.Command.{Command}
+use Rattle.command_words.specs.Words.{advertise_of, plans_of, words_of}
+use Rattle.command_words.specs.declared.words.Command.{Command}
 
 -- what is written behind the last response
 abbrev pub IsLast : Ending → List ℕ → Type 0

@@ -3,13 +3,13 @@ ghost use Rattle.gate_io.specs.Counts.{Rose};
 ghost use Rattle.http_conn.specs.declared.request.ConnNo.TheVariants.{WriteFault, ReadFault, Want as WantConn};
 ghost use Rattle.proxy_cli.specs.Session.{SessionServes, SessionLoses, SessionStarves, SessionCuts};
 ghost use Rattle.proxy_cli.specs.Status.{IsStatus, served_status};
-ghost use Rattle.proxy_cli.specs.Words.{advertise_of, plans_of, words_of};
+ghost use Rattle.command_words.specs.Words.{advertise_of, plans_of, words_of};
 
 use crate::ended::Ended;
 use crate::session::serve_stream;
-use crate::words::{Command, WordNo, read_words};
 use broker_link::MemLink;
 use desk::AloneDesk;
+use command_words::{Command, WordNo, read_words};
 use gate_io::{Clock, Sink, Source, Text, Want, write_all};
 use http_conn::ConnNo;
 use std::alloc::{AllocError, Global};

@@ -6,7 +6,7 @@ use Rattle.broker_link.specs.declared.memory.MemLink.{MemLink}
 use Rattle.desk.specs.Shelf.{world_in}
 use Rattle.proxy_cli.specs.Served.{Gateway}
 use Rattle.proxy_cli.specs.Session.{first_gateway}
-use Rattle.proxy_cli.specs.Words.{advertise_of, plans_of}
+use Rattle.command_words.specs.Words.{advertise_of, plans_of}
 use Rattle.proxy_cli.proofs.Answered.{session_answers}
 use Rattle.proxy_cli.proofs.Sessions.{all_so, first_so, some_so, until_so}
 use Rattle.proxy_cli.proofs.Statuses.{zero_is, three_is, four_is, seven_is}

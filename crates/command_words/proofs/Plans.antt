@@ -1,5 +1,6 @@
 -- From the words of a session to topics that a link can be made with.
-use Rattle.std.proofs.Common.{◌≡◌, ℕ, ◌<◌, ◌≤◌, ◌^◌, Bool, true, false, ◌||◌, ◌&&◌, not, cond, List, [], ◌∷◌, length, Option, None, Some, option_map, option_and_then, nat_le, refl, sym, subst, arith}
+use Rattle.std.proofs.Common.{◌≡◌, ℕ, ◌<◌, ◌≤◌, ◌^◌, Bool, true, false, ◌||◌, ◌&&◌, not, cond, List, [], ◌∷◌, length, Option, None, Some, option_map, option_and_then, nat_le, nat_lt, codes, refl, sym, subst, arith}
+use Rattle.std.specs.List.{list_any}
 use Rattle.std.specs.Prelude.{All, AllPairs, ◌≢◌}
 use Rattle.std.specs.Str.{bytes_eq}
 use Rattle.std.specs.Str.Parse.{digits_value}
@@ -8,8 +9,11 @@ use Rattle.std.proofs.lemmas.List.Elements.{All-nil, All-cons}
 use Rattle.std.proofs.lemmas.List.Kept.{AllPairs-cons}
 use Rattle.std.proofs.lemmas.Slice.Eq.{bytes_eq-Decides}
 use Rattle.broker_link.specs.Made.{ArePlans}
-use Rattle.proxy_cli.specs.declared.words.Command.{Command}
-use Rattle.proxy_cli.specs.Words.{count_in, topic_of, topics_of, has_name, are_apart, if_apart, session_with, session_of, words_of, plans_of}
+use Rattle.command_words.specs.declared.words.Command.{Command}
+use Rattle.clap.specs.Words.{Row, all_of}
+use Rattle.command_words.specs.Apps.{rows_in, session_app}
+use Rattle.command_words.specs.Topics.{count_in, topic_of, topics_of, topics_in, has_name, are_apart}
+use Rattle.command_words.specs.Words.{advertised_in, is_dash, session_with, session_in, session_of, words_of, plans_of}
 
 -- what a choice gave
 chosen : {X : Type 0} (test : Bool) (o : Option X) (x : X) → cond test o None ≡ Some x → (test ≡ true) × (o ≡ Some x)
@@ -76,17 +80,33 @@ names_differ (t ∷ ts) apart =
     let b = both (not (has_name t.0 ts)) (are_apart ts) apart in
     AllPairs-cons (λ (p q : List ℕ × ℕ). p.0 ≢ q.0) t ts (others_differ t.0 ts (negated (has_name t.0 ts) b.0)) (names_differ ts b.1)
 
-session_plans : (words : List (List ℕ)) (command : Command) → session_of words ≡ Some command → ArePlans (plans_of command)
-unfolding session_of
-session_plans words command is =
-    let m = mapped session_with (option_and_then if_apart (topics_of words)) command (chosen (nat_le 1 (length words) && nat_le (length words) 16) _ command is).1 in
-    let f = followed if_apart (topics_of words) m.0 m.1 in
-    let c = chosen (are_apart f.0) (Some f.0) m.0 f.2 in
-    let same : f.0 ≡ m.0 = let e = c.1 in cc in
+unchosen : {X : Type 0} (test : Bool) (o : Option X) (x : X) → cond test None o ≡ Some x → o ≡ Some x
+unchosen true o x is = cc
+unchosen false o x is = is
+
+topics_are_plans : (words : List (List ℕ)) (topics : List (List ℕ × ℕ)) → topics_in words ≡ Some topics → ArePlans topics
+unfolding topics_in
+topics_are_plans words topics is =
+    let f = followed (λ (ts : List (List ℕ × ℕ)). cond (are_apart ts) (Some ts) None) (topics_of words) topics (chosen (nat_le 1 (length words) && nat_le (length words) 16) _ topics is).1 in
+    let c = chosen (are_apart f.0) (Some f.0) topics f.2 in
+    let same : f.0 ≡ topics = let e = c.1 in cc in
     let plans : ArePlans f.0 = record { apart = names_differ f.0 c.0; few = topics_are_small words f.0 f.1 } in
-    subst (λ (command : Command). ArePlans (plans_of command)) m.2 (subst ArePlans same plans)
+    subst ArePlans same plans
+
+session_plans : (rows : List Row) (command : Command) → session_in rows ≡ Some command → ArePlans (plans_of command)
+unfolding session_in
+session_plans rows command is =
+    let m = mapped (session_with (advertised_in rows)) (option_and_then topics_in (all_of (codes "topics") rows)) command (chosen (nat_lt 0 (length (advertised_in rows))) _ command is).1 in
+    let f = followed topics_in (all_of (codes "topics") rows) m.0 m.1 in
+    subst (λ (command : Command). ArePlans (plans_of command)) m.2 (topics_are_plans f.0 m.0 f.2)
+
+command_plans : (words : List (List ℕ)) (command : Command) → session_of words ≡ Some command → ArePlans (plans_of command)
+unfolding session_of
+command_plans words command is =
+    let f = followed session_in (rows_in session_app words) command (unchosen (list_any is_dash words) _ command is) in
+    session_plans f.0 command f.2
 
 pub plans_of_words : (words : List (List ℕ)) (command : Command) → words_of words ≡ Some command → ArePlans (plans_of command)
 unfolding words_of
 plans_of_words [] command is = cc
-plans_of_words (c ∷ ws) command is = session_plans ws command (chosen _ (session_of ws) command is).1
+plans_of_words (c ∷ ws) command is = command_plans ws command (chosen _ (session_of ws) command is).1

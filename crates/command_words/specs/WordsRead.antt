@@ -1,8 +1,8 @@
 -- What the reader of words returned: the command that they ask for, or that they ask for none.
 use Rattle.std.specs.Prelude.{◌≡◌, ⊤, Option, Some, None, Result, Ok, Err}
-use Rattle.proxy_cli.specs.declared.words.Command.{Command}
-use Rattle.proxy_cli.specs.declared.words.WordNo.{WordNo}
-use Rattle.proxy_cli.specs.declared.words.WordNo.TheVariants.{Bad, Want}
+use Rattle.command_words.specs.declared.words.Command.{Command}
+use Rattle.command_words.specs.declared.words.WordNo.{WordNo}
+use Rattle.command_words.specs.declared.words.WordNo.TheVariants.{Bad, Want}
 
 -- want of memory says nothing of the words
 abbrev pub WordsRead : Result Command WordNo → Option Command → Type 0

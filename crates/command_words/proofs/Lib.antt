@@ -1,0 +1,4 @@
+pub mod Behind
+pub mod Matches
+pub mod Numbers
+pub mod Plans

@@ -1,0 +1,4 @@
+pub mod Apps
+pub mod Topics
+pub mod Words
+pub mod WordsRead
