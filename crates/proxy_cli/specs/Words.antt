@@ -4,7 +4,7 @@ use Rattle.std.specs.List.{list_all, list_any, position_or_len, before_first, af
 use Rattle.std.specs.Str.{bytes_eq}
 use Rattle.std.specs.Str.Parse.{digits_value}
 use Rattle.std.specs.Char.{is_ascii_digit}
-use Rattle.rest_calls.specs.Path.{is_topic_name}
+use Rattle.rest_routes.specs.Path.{is_topic_name}
 use Rattle.proxy_cli.specs.declared.words.Command.{Command}
 use Rattle.proxy_cli.specs.declared.words.Command.TheVariants.{Session}
 

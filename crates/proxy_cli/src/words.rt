@@ -7,7 +7,7 @@ ghost use Rattle.proxy_cli.specs.Words.{is_given_name, count_in, topic_of, topic
 ghost use Rattle.proxy_cli.specs.WordsRead.{WordsRead};
 
 use gate_io::{Items, Text};
-use rest_calls::is_topic_name;
+use rest_routes::is_topic_name;
 use std::alloc::{AllocError, Global};
 
 const USAGE: &str = "usage: restgate session TOPIC:PARTS [TOPIC:PARTS ..]";
