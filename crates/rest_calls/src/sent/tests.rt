@@ -9,100 +9,43 @@ const INVALID: &str = "42204 Invalid consumer configuration.";
 
 const CREATE: (&str, &str, &str) = ("POST", "/consumers/g", "");
 
-const ASSIGN: (&str, &str, &str) = ("POST", "/consumers/g/instances/c1/assignments", "");
+const ASSIGNMENTS_OF: &str = "/consumers/g/instances/c1/assignments";
 
-/// Each method, path, query and body reads as the text beside them.
+const ASSIGN: (&str, &str, &str) = ("POST", ASSIGNMENTS_OF, "");
+
+/// Each method, path and query, without a body, reads as the text beside them.
 fn places_read_as(
     rt: &impl Abort,
     alloc: Global,
-    cases: &[(&str, &str, &str, &[u8], &str)],
+    cases: &[(&str, &str, &str, &str)],
 ) -> Result<(), Fail> {
-    for (place, (method, path, query, body, want)) in cases.iter().enumerate() {
-        let text = told(alloc, (method, path, ""), query, body)?;
+    for (place, (method, path, query, want)) in cases.iter().enumerate() {
+        let text = told(alloc, (method, path, ""), query, b"")?;
         assert_eq!(rt; text.as_str(), *want, "case {place}");
     }
     Ok(())
 }
 
-const PLACES: [(&str, &str, &str, &[u8], &str); 10] = [
-    ("GET", "/consumers/g", "", b"", "404 Not found."),
+const NAMED: &str = "/consumers/a.b_c-9Z/instances/-/records";
+
+const PLACES: [(&str, &str, &str, &str); 7] = [
+    ("GET", "/consumers/g", "", "404 Not found."),
+    ("POST", "/consumers/g", "", "create g unnamed end 1 1000"),
+    ("DELETE", "/consumers/g/instances/c1", "", "delete g c1"),
+    ("GET", ASSIGNMENTS_OF, "", "assignments g c1"),
     (
         "GET",
-        "/consumers/g/instances/c1/records",
-        "timeout=x",
-        b"",
-        UNREADABLE,
-    ),
-    (
-        "POST",
-        "/consumers/g",
-        "",
-        b"{\"name\":\"c1\",\"auto.offset.reset\":\"earliest\"}",
-        "create g c1 start 1 1000",
-    ),
-    (
-        "POST",
-        "/consumers/g",
-        "",
-        b"",
-        "create g unnamed end 1 1000",
-    ),
-    (
-        "POST",
-        "/consumers/g",
-        "",
-        b"{\"name\":\"auto-x\"}",
-        INVALID,
-    ),
-    (
-        "DELETE",
-        "/consumers/g/instances/c1",
-        "",
-        b"",
-        "delete g c1",
-    ),
-    (
-        "POST",
-        "/consumers/g/instances/c1/assignments",
-        "",
-        b"{\"partitions\":[{\"topic\":\"orders\",\"partition\":0}]}",
-        "assign g c1 orders/0",
-    ),
-    (
-        "GET",
-        "/consumers/g/instances/c1/assignments",
-        "",
-        b"",
-        "assignments g c1",
-    ),
-    (
-        "GET",
-        "/consumers/g/instances/c1/records",
+        NAMED,
         "max_bytes=1",
-        b"",
-        "records g c1 max_bytes 1",
+        "records a.b_c-9Z - max_bytes 1",
     ),
-    (
-        "GET",
-        "/consumers/a.b_c-9Z/instances/-/records",
-        "timeout=25",
-        b"ignored",
-        "records a.b_c-9Z - timeout 25",
-    ),
+    ("GET", NAMED, "timeout=25", "records a.b_c-9Z - timeout 25"),
+    ("GET", NAMED, "timeout=x", UNREADABLE),
 ];
 
 #[test]
 fn reads_each_place_of_a_consumer(rt: HostRuntime) -> Result<(), Fail> {
     places_read_as(&rt, rt.alloc(), &PLACES)
-}
-
-/// The character so often.
-fn repeated(alloc: Global, count: usize, one: &str) -> Result<String, Fail> {
-    let mut long = String::new(alloc);
-    for _ in 0..count {
-        long.push_str(one)?;
-    }
-    Ok(long)
 }
 
 const SETTINGS: [(&[u8], &str); 10] = [
@@ -206,7 +149,10 @@ fn ends_are_taken(
     cases: &[(&str, bool)],
 ) -> Result<(), Fail> {
     let (before, count, after) = body;
-    let long = repeated(alloc, count, "/")?;
+    let mut long = String::new(alloc);
+    for _ in 0..count {
+        long.push_str("/")?;
+    }
     let long = long.as_str();
     for (end, is_taken) in cases {
         let body = format!(in alloc; "{before}{long}{end}{after}")?;
