@@ -5,7 +5,7 @@ ghost use Rattle.std.specs.Str.Parse.{digits_value};
 ghost use Rattle.command_words.specs.Topics.{is_given_name, count_in, topic_of, topics_of, topics_in, has_name, are_apart};
 
 use gate_io::{Items, Text};
-use rest_calls::is_topic_name;
+use rest_routes::is_topic_name;
 use std::alloc::{AllocError, Global};
 
 #[tactic(auto, unfolding(crate::specs::Topics::is_given_name))]

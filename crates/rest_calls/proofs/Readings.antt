@@ -9,8 +9,9 @@ use Rattle.rest_calls.specs.Json.{IsJson}
 use Rattle.rest_calls.specs.Body.{produced_by}
 use Rattle.rest_calls.specs.Create.{created_by}
 use Rattle.rest_calls.specs.Assign.{assigned_by}
-use Rattle.rest_calls.specs.Place.{Place, Topic, Group, Instance, place_of}
-use Rattle.rest_calls.specs.declared.place.Ask.TheVariants.{Delete, Assign, Assignments, Records}
+use Rattle.rest_routes.specs.Place.{Place, Topic, Group, Instance, place_of}
+use Rattle.rest_routes.specs.declared.place.Ask.TheVariants.{Delete, Assign, Assignments, Records}
+use Rattle.rest_calls.specs.Views.{key_in}
 use Rattle.rest_calls.specs.Reading.{Read, Reading, ReadingAt, ReadingIn, ProducedAs, CreatedAs, AssignedAs, produce_read, create_read, assign_read}
 
 -- a body is one value of JSON, or none
@@ -33,10 +34,10 @@ one_created (b ∷ bs) x y is was = is.2 ∙ ap created_by (one_value (b ∷ bs)
 one_at : (place : Place) (request : Request) (a b : Read) → ReadingAt place request a → ReadingAt place request b → a ≡ b
 one_at (Topic topic) request a b x y = x.2 ∙ ap (produce_read topic) (one_produced request.body x.0 y.0 x.1 y.1) ∙ sym y.2
 one_at (Group group) request a b x y = x.2 ∙ ap (create_read group) (one_created request.body x.0 y.0 x.1 y.1) ∙ sym y.2
-one_at (Instance key Delete) request a b x y = x ∙ sym y
-one_at (Instance key Assign) request a b x y = x.2 ∙ ap (assign_read key) (one_assigned request.body x.0 y.0 x.1 y.1) ∙ sym y.2
-one_at (Instance key Assignments) request a b x y = x ∙ sym y
-one_at (Instance key Records) request a b x y = x ∙ sym y
+one_at (Instance group name Delete) request a b x y = x ∙ sym y
+one_at (Instance group name Assign) request a b x y = x.2 ∙ ap (assign_read (key_in group name)) (one_assigned request.body x.0 y.0 x.1 y.1) ∙ sym y.2
+one_at (Instance group name Assignments) request a b x y = x ∙ sym y
+one_at (Instance group name Records) request a b x y = x ∙ sym y
 
 one_in : (place : Option Place) (request : Request) (a b : Read) → ReadingIn place request a → ReadingIn place request b → a ≡ b
 one_in None request a b x y = x ∙ sym y

@@ -1,7 +1,4 @@
 pub mod Views
-pub mod Path
-pub mod Place
-pub mod Query
 pub mod Json
 pub mod Body
 pub mod Create

@@ -11,14 +11,14 @@ use Rattle.rest_codes.specs.declared.response.Reply.{Reply}
 use Rattle.rest_codes.specs.declared.response.Reply.TheVariants.{Want}
 use Rattle.rest_codes.specs.Errors.{refusal_of}
 use Rattle.rest_calls.specs.Views.{key_in}
-use Rattle.rest_calls.specs.Place.{Place, Topic, Group, Instance, place_of}
+use Rattle.rest_routes.specs.Place.{Place, Topic, Group, Instance, place_of}
 use Rattle.rest_calls.specs.Json.{IsJson}
 use Rattle.rest_calls.specs.Body.{produced_by}
 use Rattle.rest_calls.specs.Create.{created_by, usual_settings}
 use Rattle.rest_calls.specs.Assign.{assigned_by}
-use Rattle.rest_calls.specs.Query.{limits_of}
-use Rattle.rest_calls.specs.declared.query.Limits.{Limits}
-use Rattle.rest_calls.specs.declared.place.Ask.TheVariants.{Delete, Assign, Assignments, Records}
+use Rattle.rest_routes.specs.Query.{limits_of}
+use Rattle.rest_routes.specs.declared.query.Limits.{Limits}
+use Rattle.rest_routes.specs.declared.place.Ask.TheVariants.{Delete, Assign, Assignments, Records}
 
 -- what a request reads as: a call, or a refusal with a code
 pub data Read : Type 0 where
@@ -70,10 +70,10 @@ records_read key None = Refuses 422
 abbrev pub ReadingAt : Place → Request → Read → Type 0
 ReadingAt (Topic topic) request read = (records : Option (List Given)) × ProducedAs request.body records × (read ≡ produce_read topic records)
 ReadingAt (Group group) request read = (made : Result (List ℕ × Settings) ℕ) × CreatedAs request.body made × (read ≡ create_read group made)
-ReadingAt (Instance key Delete) request read = read ≡ Calls (Of key Deletes)
-ReadingAt (Instance key Assign) request read = (parts : Option (List TopicPart)) × AssignedAs request.body parts × (read ≡ assign_read key parts)
-ReadingAt (Instance key Assignments) request read = read ≡ Calls (Of key AsksAssignments)
-ReadingAt (Instance key Records) request read = read ≡ records_read key (limits_of request.query)
+ReadingAt (Instance group name Delete) request read = read ≡ Calls (Of (key_in group name) Deletes)
+ReadingAt (Instance group name Assign) request read = (parts : Option (List TopicPart)) × AssignedAs request.body parts × (read ≡ assign_read (key_in group name) parts)
+ReadingAt (Instance group name Assignments) request read = read ≡ Calls (Of (key_in group name) AsksAssignments)
+ReadingAt (Instance group name Records) request read = read ≡ records_read (key_in group name) (limits_of request.query)
 
 -- a request that has no place is refused with 404
 abbrev pub ReadingIn : Option Place → Request → Read → Type 0

@@ -9,11 +9,11 @@ ghost use Rattle.rest_calls.specs.Reads.{Gives, created_view};
 ghost use Rattle.broker_link.specs.Fetching.{edge_view};
 
 use crate::call::Settings;
-use crate::digits;
 use crate::unread::Unread;
 use crate::value::json_of;
 use broker_link::Edge;
 use gate_io::Text;
+use rest_routes::{are_digits, number_in as digit_number};
 use serde_json::Value;
 use std::alloc::{AllocError, Global};
 
@@ -158,10 +158,10 @@ fn number_in(bounds: Bounds, text: &str) -> Option<u32>
     if text == "-1" {
         return Some(bounds.usual);
     }
-    if text.is_empty() || !digits::are_digits(text) {
+    if text.is_empty() || !are_digits(text) {
         return None;
     }
-    within(bounds, digits::number_in(text)?)
+    within(bounds, digit_number(text)?)
 }
 
 /// The number that a JSON integer is.

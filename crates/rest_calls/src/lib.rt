@@ -5,11 +5,7 @@ mod assign;
 mod body;
 mod call;
 mod create;
-mod digits;
 mod key;
-mod path;
-mod place;
-mod query;
 mod reading;
 mod sent;
 #[cfg(test)]
@@ -19,5 +15,4 @@ mod value;
 
 pub use call::{Batch, Call, Payload, Row, Settings};
 pub use key::key_of;
-pub use path::is_topic_name;
 pub use reading::{call_of, readings_are_one};

@@ -6,12 +6,12 @@ ghost use Rattle.rest_codes.specs.declared.response.Reply.TheVariants.{Want as W
 ghost use Rattle.http_conn.specs.declared.request.Request.{Request};
 
 use crate::call::Call;
-use crate::place::place_of;
 use crate::sent::read_at;
 use crate::unread::Unread;
 use gate_io::Want;
 use http_conn::Request;
 use rest_codes::{Reply, refusal};
+use rest_routes::place_of;
 use std::alloc::Global;
 
 /// The reply that refuses a request, or that of want of memory.

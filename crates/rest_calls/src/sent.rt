@@ -1,19 +1,17 @@
 ghost use Rattle.std.specs.Prelude.{◌≡◌, IfOk};
-ghost use Rattle.rest_calls.specs.Views.{key_in};
-ghost use Rattle.rest_calls.specs.Place.{Topic, Group, Instance, place_view};
+ghost use Rattle.rest_routes.specs.Place.{Topic, Group, Instance, place_view};
 ghost use Rattle.rest_calls.specs.Reading.{ReadingAt};
 ghost use Rattle.rest_calls.specs.Reads.{GivesCall, IsWhole};
-ghost use Rattle.rest_calls.specs.declared.place.Ask.TheVariants as ask;
+ghost use Rattle.rest_routes.specs.declared.place.Ask.TheVariants as ask;
 
 use crate::assign::read_parts;
 use crate::body::read_body;
 use crate::call::Call;
 use crate::create::{Created, read_create};
-use crate::place::{Ask, Place};
-use crate::query::limits_of;
 use crate::unread::Unread;
 use gate_io::Text;
 use http_conn::Request;
+use rest_routes::{Ask, Place, limits_of};
 use std::alloc::{AllocError, Global};
 
 fn names_of(alloc: Global, group: &str, instance: &str) -> Result<(Text, Text), AllocError>
@@ -60,7 +58,7 @@ fn create(alloc: Global, group: &str, request: &Request) -> Result<Call, Unread>
 
 fn delete(alloc: Global, group: &str, instance: &str, request: &Request) -> Result<Call, Unread>
     ensures reads { GivesCall result
-        (ReadingAt (Instance (key_in group.now instance.now) ask.Delete) request.now) }
+        (ReadingAt (Instance group.now instance.now ask.Delete) request.now) }
     ensures whole { IfOk result IsWhole }
 {
     match names_of(alloc, group, instance) {
@@ -71,7 +69,7 @@ fn delete(alloc: Global, group: &str, instance: &str, request: &Request) -> Resu
 
 fn assign(alloc: Global, group: &str, instance: &str, request: &Request) -> Result<Call, Unread>
     ensures reads { GivesCall result
-        (ReadingAt (Instance (key_in group.now instance.now) ask.Assign) request.now) }
+        (ReadingAt (Instance group.now instance.now ask.Assign) request.now) }
     ensures whole { IfOk result IsWhole }
 {
     let parts = match read_parts(alloc, request.body.as_slice()) {
@@ -95,7 +93,7 @@ fn assignments(
     request: &Request,
 ) -> Result<Call, Unread>
     ensures reads { GivesCall result
-        (ReadingAt (Instance (key_in group.now instance.now) ask.Assignments) request.now) }
+        (ReadingAt (Instance group.now instance.now ask.Assignments) request.now) }
     ensures whole { IfOk result IsWhole }
 {
     match names_of(alloc, group, instance) {
@@ -106,7 +104,7 @@ fn assignments(
 
 fn records(alloc: Global, group: &str, instance: &str, request: &Request) -> Result<Call, Unread>
     ensures reads { GivesCall result
-        (ReadingAt (Instance (key_in group.now instance.now) ask.Records) request.now) }
+        (ReadingAt (Instance group.now instance.now ask.Records) request.now) }
     ensures whole { IfOk result IsWhole }
 {
     let Some(limits) = limits_of(request.query.as_str()) else {

@@ -8,6 +8,7 @@ use http::Method;
 use http_conn::Request;
 use rest_codes::Reply;
 use std::alloc::{AllocError, Global};
+use std::process::Abort;
 use std::test::Fail;
 
 /// A content type, or none where it is empty.
@@ -180,20 +181,44 @@ fn shown(alloc: Global, read: &Result<Call, Reply>) -> Result<String, AllocError
     Ok(out)
 }
 
-fn read(alloc: Global, request: &Request) -> Result<Call, Reply> {
-    call_of(alloc, request)
-}
-
-/// What such a request reads as, as a text.
+/// What a request of this method, path and content type, with none where it is empty, reads as.
 pub(crate) fn told(
     alloc: Global,
-    method: &str,
-    path: &str,
+    line: (&str, &str, &str),
     query: &str,
-    media: &str,
     body: &[u8],
 ) -> Result<String, Fail> {
+    let (method, path, media) = line;
     let request = request_of(alloc, method, path, query, media, body)?;
-    let read = read(alloc, &request);
+    let read = call_of(alloc, &request);
     Ok(shown(alloc, &read)?)
+}
+
+/// Each body, sent so, reads as the text beside it.
+pub(crate) fn bodies_read_as(
+    rt: &impl Abort,
+    alloc: Global,
+    line: (&str, &str, &str),
+    cases: &[(&[u8], &str)],
+) -> Result<(), Fail> {
+    for (place, (body, want)) in cases.iter().enumerate() {
+        let text = told(alloc, line, "", body)?;
+        assert_eq!(rt; text.as_str(), *want, "case {place}");
+    }
+    Ok(())
+}
+
+/// Each body, sent so, reads as this text.
+pub(crate) fn bodies_all_read_as(
+    rt: &impl Abort,
+    alloc: Global,
+    line: (&str, &str, &str),
+    bodies: &[&[u8]],
+    want: &str,
+) -> Result<(), Fail> {
+    for (place, body) in bodies.iter().enumerate() {
+        let text = told(alloc, line, "", body)?;
+        assert_eq!(rt; text.as_str(), want, "case {place}");
+    }
+    Ok(())
 }

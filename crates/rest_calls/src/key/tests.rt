@@ -21,24 +21,9 @@ fn key_of_a_create(alloc: Global) -> Result<Items<u8>, Fail> {
     Ok(key_of(alloc, &call)?)
 }
 
-fn key_of_a_delete(alloc: Global) -> Result<Items<u8>, Fail> {
-    let group = Text::from_str(alloc, "g")?;
-    let instance = Text::from_str(alloc, "c1")?;
-    Ok(key_of(alloc, &Call::Delete { group, instance })?)
-}
-
 #[test]
 fn the_key_of_a_create_is_the_group_a_zero_byte_and_the_name(rt: HostRuntime) -> Result<(), Fail> {
     let key = key_of_a_create(rt.alloc())?;
-    assert!(rt; key.as_slice() == b"g\0c1".as_slice());
-    Ok(())
-}
-
-#[test]
-fn the_key_of_another_call_is_the_group_a_zero_byte_and_the_instance(
-    rt: HostRuntime,
-) -> Result<(), Fail> {
-    let key = key_of_a_delete(rt.alloc())?;
     assert!(rt; key.as_slice() == b"g\0c1".as_slice());
     Ok(())
 }

@@ -1,5 +1,5 @@
-use crate::shown::told;
-use std::alloc::{AllocError, Global};
+use crate::shown::{bodies_all_read_as, bodies_read_as, told};
+use std::alloc::Global;
 use std::process::Abort;
 use std::test::Fail;
 
@@ -7,108 +7,40 @@ const UNREADABLE: &str = "422 Body does not read.";
 
 const INVALID: &str = "42204 Invalid consumer configuration.";
 
-const NOT_FOUND: &str = "404 Not found.";
+const CREATE: (&str, &str, &str) = ("POST", "/consumers/g", "");
 
-/// The path of instance `c1` in group `g`, with this end.
-fn path_of(alloc: Global, end: &str) -> Result<String, AllocError> {
-    format!(in alloc; "/consumers/g/instances/c1{end}")
-}
+const ASSIGNMENTS_OF: &str = "/consumers/g/instances/c1/assignments";
 
-/// A request without a content type reads so.
-fn reads_as(
-    rt: &impl Abort,
-    text: Result<String, Fail>,
-    want: &str,
-    place: usize,
-) -> Result<(), Fail> {
-    let text = text?;
-    assert_eq!(rt; text.as_str(), want, "case {place}");
-    Ok(())
-}
+const ASSIGN: (&str, &str, &str) = ("POST", ASSIGNMENTS_OF, "");
 
-/// Each method, path, query and body reads as the text beside them.
+/// Each method, path and query, without a body, reads as the text beside them.
 fn places_read_as(
     rt: &impl Abort,
     alloc: Global,
-    cases: &[(&str, &str, &str, &[u8], &str)],
+    cases: &[(&str, &str, &str, &str)],
 ) -> Result<(), Fail> {
-    for (place, (method, path, query, body, want)) in cases.iter().enumerate() {
-        let text = told(alloc, method, path, query, "", body);
-        reads_as(rt, text, want, place)?;
+    for (place, (method, path, query, want)) in cases.iter().enumerate() {
+        let text = told(alloc, (method, path, ""), query, b"")?;
+        assert_eq!(rt; text.as_str(), *want, "case {place}");
     }
     Ok(())
 }
 
-/// No method and path here is one that is served.
-fn places_are_not_found(
-    rt: &impl Abort,
-    alloc: Global,
-    cases: &[(&str, &str)],
-) -> Result<(), Fail> {
-    for (place, (method, path)) in cases.iter().enumerate() {
-        let text = told(alloc, method, path, "", "", b"{\"partitions\":[]}");
-        reads_as(rt, text, NOT_FOUND, place)?;
-    }
-    Ok(())
-}
+const NAMED: &str = "/consumers/a.b_c-9Z/instances/-/records";
 
-const PLACES: [(&str, &str, &str, &[u8], &str); 8] = [
-    (
-        "POST",
-        "/consumers/g",
-        "",
-        b"{\"name\":\"c1\",\"auto.offset.reset\":\"earliest\"}",
-        "create g c1 start 1 1000",
-    ),
-    (
-        "POST",
-        "/consumers/g",
-        "",
-        b"",
-        "create g unnamed end 1 1000",
-    ),
-    (
-        "POST",
-        "/consumers/g",
-        "",
-        b"{\"name\":\"auto-x\"}",
-        INVALID,
-    ),
-    (
-        "DELETE",
-        "/consumers/g/instances/c1",
-        "",
-        b"",
-        "delete g c1",
-    ),
-    (
-        "POST",
-        "/consumers/g/instances/c1/assignments",
-        "",
-        b"{\"partitions\":[{\"topic\":\"orders\",\"partition\":0}]}",
-        "assign g c1 orders/0",
-    ),
+const PLACES: [(&str, &str, &str, &str); 7] = [
+    ("GET", "/consumers/g", "", "404 Not found."),
+    ("POST", "/consumers/g", "", "create g unnamed end 1 1000"),
+    ("DELETE", "/consumers/g/instances/c1", "", "delete g c1"),
+    ("GET", ASSIGNMENTS_OF, "", "assignments g c1"),
     (
         "GET",
-        "/consumers/g/instances/c1/assignments",
-        "",
-        b"",
-        "assignments g c1",
-    ),
-    (
-        "GET",
-        "/consumers/g/instances/c1/records",
+        NAMED,
         "max_bytes=1",
-        b"",
-        "records g c1 max_bytes 1",
+        "records a.b_c-9Z - max_bytes 1",
     ),
-    (
-        "GET",
-        "/consumers/a.b_c-9Z/instances/-/records",
-        "timeout=25",
-        b"ignored",
-        "records a.b_c-9Z - timeout 25",
-    ),
+    ("GET", NAMED, "timeout=25", "records a.b_c-9Z - timeout 25"),
+    ("GET", NAMED, "timeout=x", UNREADABLE),
 ];
 
 #[test]
@@ -116,171 +48,80 @@ fn reads_each_place_of_a_consumer(rt: HostRuntime) -> Result<(), Fail> {
     places_read_as(&rt, rt.alloc(), &PLACES)
 }
 
-const OTHER_PLACES: [(&str, &str); 18] = [
-    ("GET", "/consumers/g"),
-    ("post", "/consumers/g"),
-    ("POST", "/consumers/"),
-    ("POST", "/consumers/g/"),
-    ("POST", "/consumers/%67"),
-    ("POST", "/consumers/a\u{e9}"),
-    ("POST", "consumers/g"),
-    ("DELETE", "/consumers/g/instances/"),
-    ("DELETE", "/consumers//instances/c1"),
-    ("DELETE", "/consumers/g/instances/c+1"),
-    ("DELETE", "/consumers/g/instances/c1/assignments"),
-    ("POST", "/consumers/g/instances/c1"),
-    ("PUT", "/consumers/g/instances/c1/assignments"),
-    ("POST", "/consumers/g/instances/c1/records"),
-    ("GET", "/consumers/g/instances/c1/records/"),
-    ("GET", "/consumers/g/instances/c1/offsets"),
-    ("GET", "/consumers/g/x/instances/c1/records"),
-    ("GET", "/topics"),
-];
-
-#[test]
-fn refuses_other_places_and_methods(rt: HostRuntime) -> Result<(), Fail> {
-    places_are_not_found(&rt, rt.alloc(), &OTHER_PLACES)
-}
-
-/// The character so often.
-fn repeated(alloc: Global, count: usize, one: &str) -> Result<String, Fail> {
-    let mut long = String::new(alloc);
-    for _ in 0..count {
-        long.push_str(one)?;
-    }
-    Ok(long)
-}
-
-/// Whether the request is read as a call: a refusal begins with its code.
-fn is_read(alloc: Global, method: &str, path: &str, body: &[u8]) -> Result<bool, Fail> {
-    let text = told(alloc, method, path, "", "", body)?;
-    Ok(!text.starts_with("4"))
-}
-
-/// A group and an instance of 248 characters with each end are taken, or not.
-fn names_are_taken(rt: &impl Abort, alloc: Global, cases: &[(&str, bool)]) -> Result<(), Fail> {
-    let long = repeated(alloc, 248, "x")?;
-    let long = long.as_str();
-    for (end, is_taken) in cases {
-        let group = format!(in alloc; "/consumers/{long}{end}")?;
-        let is_group = is_read(alloc, "POST", group.as_str(), b"")?;
-        assert_eq!(rt; is_group, *is_taken, "group {end}");
-        let instance = format!(in alloc; "/consumers/g/instances/{long}{end}/records")?;
-        let is_instance = is_read(alloc, "GET", instance.as_str(), b"")?;
-        assert_eq!(rt; is_instance, *is_taken, "instance {end}");
-    }
-    Ok(())
-}
-
-const NAME_ENDS: [(&str, bool); 3] = [("", true), ("y", true), ("yz", false)];
-
-#[test]
-fn takes_groups_and_instances_of_1_to_249_characters(rt: HostRuntime) -> Result<(), Fail> {
-    names_are_taken(&rt, rt.alloc(), &NAME_ENDS)
-}
-
-/// What a Create in group `g` with this body reads as.
-fn shown_create(alloc: Global, body: &[u8]) -> Result<String, Fail> {
-    told(alloc, "POST", "/consumers/g", "", "", body)
-}
-
-/// Each setting of a Create reads as the text beside it.
-fn settings_read_as(rt: &impl Abort, alloc: Global, cases: &[(&str, &str)]) -> Result<(), Fail> {
-    for (place, (members, want)) in cases.iter().enumerate() {
-        let body = format!(in alloc; "{{{members}}}")?;
-        let want = format!(in alloc; "create g {want}")?;
-        reads_as(
-            rt,
-            shown_create(alloc, body.as_bytes()),
-            want.as_str(),
-            place,
-        )?;
-    }
-    Ok(())
-}
-
-/// No setting of a Create is allowed.
-fn settings_are_invalid(rt: &impl Abort, alloc: Global, cases: &[&str]) -> Result<(), Fail> {
-    for (place, members) in cases.iter().enumerate() {
-        let body = format!(in alloc; "{{{members}}}")?;
-        reads_as(rt, shown_create(alloc, body.as_bytes()), INVALID, place)?;
-    }
-    Ok(())
-}
-
-/// No body of a Create reads.
-fn creates_are_refused(rt: &impl Abort, alloc: Global, bodies: &[&[u8]]) -> Result<(), Fail> {
-    for (place, body) in bodies.iter().enumerate() {
-        reads_as(rt, shown_create(alloc, body), UNREADABLE, place)?;
-    }
-    Ok(())
-}
-
-const SETTINGS: [(&str, &str); 10] = [
-    ("\"name\":null,\"format\":null", "unnamed end 1 1000"),
-    ("\"name\":\"Auto-x\",\"id\":7", "Auto-x end 1 1000"),
-    ("\"name\":5,\"name\":\"a/\\u20ac\"", "a/\u{20ac} end 1 1000"),
+const SETTINGS: [(&[u8], &str); 10] = [
     (
-        "\"format\":\"binary\",\"auto.offset.reset\":\"latest\"",
-        "unnamed end 1 1000",
+        b"{\"name\":null,\"format\":null}",
+        "create g unnamed end 1 1000",
     ),
     (
-        "\"auto.offset.reset\":\"earliest\",\"auto.commit.enable\":false",
-        "unnamed start 1 1000",
+        b"{\"name\":\"Auto-x\",\"id\":7}",
+        "create g Auto-x end 1 1000",
     ),
     (
-        "\"auto.offset.reset\":null,\"auto.commit.enable\":\"true\"",
-        "unnamed end 1 1000",
+        b"{\"name\":5,\"name\":\"a/\\u20ac\"}",
+        "create g a/\u{20ac} end 1 1000",
     ),
     (
-        "\"fetch.min.bytes\":4194304,\"consumer.request.timeout.ms\":0",
-        "unnamed end 4194304 0",
+        b"{\"format\":\"binary\",\"auto.offset.reset\":\"latest\"}",
+        "create g unnamed end 1 1000",
     ),
     (
-        "\"fetch.min.bytes\":\"1\",\"consumer.request.timeout.ms\":\"30000\"",
-        "unnamed end 1 30000",
+        b"{\"auto.offset.reset\":\"earliest\",\"auto.commit.enable\":false}",
+        "create g unnamed start 1 1000",
     ),
     (
-        "\"fetch.min.bytes\":\"00000000000000000000000000007\"",
-        "unnamed end 7 1000",
+        b"{\"auto.offset.reset\":null,\"auto.commit.enable\":\"true\"}",
+        "create g unnamed end 1 1000",
     ),
     (
-        "\"fetch.min.bytes\":-1,\"consumer.request.timeout.ms\":\"-1\"",
-        "unnamed end 1 1000",
+        b"{\"fetch.min.bytes\":4194304,\"consumer.request.timeout.ms\":0}",
+        "create g unnamed end 4194304 0",
+    ),
+    (
+        b"{\"fetch.min.bytes\":\"1\",\"consumer.request.timeout.ms\":\"30000\"}",
+        "create g unnamed end 1 30000",
+    ),
+    (
+        b"{\"fetch.min.bytes\":\"00000000000000000000000000007\"}",
+        "create g unnamed end 7 1000",
+    ),
+    (
+        b"{\"fetch.min.bytes\":-1,\"consumer.request.timeout.ms\":\"-1\"}",
+        "create g unnamed end 1 1000",
     ),
 ];
 
 #[test]
 fn takes_settings_within_their_limits(rt: HostRuntime) -> Result<(), Fail> {
-    settings_read_as(&rt, rt.alloc(), &SETTINGS)
+    bodies_read_as(&rt, rt.alloc(), CREATE, &SETTINGS)
 }
 
-const BEYOND: [&str; 20] = [
-    "\"name\":\"\"",
-    "\"name\":\"auto-\"",
-    "\"name\":\"a\\u001fb\"",
-    "\"name\":\"a\\u007f\"",
-    "\"format\":\"json\"",
-    "\"format\":5",
-    "\"auto.offset.reset\":\"none\"",
-    "\"auto.offset.reset\":true",
-    "\"auto.commit.enable\":\"True\"",
-    "\"auto.commit.enable\":0",
-    "\"fetch.min.bytes\":0",
-    "\"fetch.min.bytes\":\"4194305\"",
-    "\"fetch.min.bytes\":\"18446744073709551617\"",
-    "\"fetch.min.bytes\":-2",
-    "\"fetch.min.bytes\":\"+1\"",
-    "\"fetch.min.bytes\":1.0",
-    "\"consumer.request.timeout.ms\":30001",
-    "\"consumer.request.timeout.ms\":\"-01\"",
-    "\"consumer.request.timeout.ms\":\"\"",
-    "\"format\":\"binary\",\"format\":\"avro\"",
+const BEYOND: [&[u8]; 20] = [
+    b"{\"name\":\"\"}",
+    b"{\"name\":\"auto-\"}",
+    b"{\"name\":\"a\\u001fb\"}",
+    b"{\"name\":\"a\\u007f\"}",
+    b"{\"format\":\"json\"}",
+    b"{\"format\":5}",
+    b"{\"auto.offset.reset\":\"none\"}",
+    b"{\"auto.offset.reset\":true}",
+    b"{\"auto.commit.enable\":\"True\"}",
+    b"{\"auto.commit.enable\":0}",
+    b"{\"fetch.min.bytes\":0}",
+    b"{\"fetch.min.bytes\":\"4194305\"}",
+    b"{\"fetch.min.bytes\":\"18446744073709551617\"}",
+    b"{\"fetch.min.bytes\":-2}",
+    b"{\"fetch.min.bytes\":\"+1\"}",
+    b"{\"fetch.min.bytes\":1.0}",
+    b"{\"consumer.request.timeout.ms\":30001}",
+    b"{\"consumer.request.timeout.ms\":\"-01\"}",
+    b"{\"consumer.request.timeout.ms\":\"\"}",
+    b"{\"format\":\"binary\",\"format\":\"avro\"}",
 ];
 
 #[test]
 fn refuses_settings_beyond_their_limits(rt: HostRuntime) -> Result<(), Fail> {
-    settings_are_invalid(&rt, rt.alloc(), &BEYOND)
+    bodies_all_read_as(&rt, rt.alloc(), CREATE, &BEYOND, INVALID)
 }
 
 const BAD_CREATES: [&[u8]; 8] = [
@@ -296,21 +137,27 @@ const BAD_CREATES: [&[u8]; 8] = [
 
 #[test]
 fn refuses_a_create_that_does_not_read_before_its_settings(rt: HostRuntime) -> Result<(), Fail> {
-    creates_are_refused(&rt, rt.alloc(), &BAD_CREATES)
+    bodies_all_read_as(&rt, rt.alloc(), CREATE, &BAD_CREATES, UNREADABLE)
 }
 
-/// A Create whose name has 247 bytes and each end is taken, or not.
-fn given_names_are_taken(
+/// A body of `before`, `/` so often, each end and `after` is read as a call, or refused.
+fn ends_are_taken(
     rt: &impl Abort,
     alloc: Global,
+    line: (&str, &str, &str),
+    body: (&str, usize, &str),
     cases: &[(&str, bool)],
 ) -> Result<(), Fail> {
-    let long = repeated(alloc, 247, "/")?;
+    let (before, count, after) = body;
+    let mut long = String::new(alloc);
+    for _ in 0..count {
+        long.push_str("/")?;
+    }
     let long = long.as_str();
     for (end, is_taken) in cases {
-        let body = format!(in alloc; "{{\"name\":\"{long}{end}\"}}")?;
-        let is_name = is_read(alloc, "POST", "/consumers/g", body.as_bytes())?;
-        assert_eq!(rt; is_name, *is_taken, "name {end}");
+        let body = format!(in alloc; "{before}{long}{end}{after}")?;
+        let text = told(alloc, line, "", body.as_bytes())?;
+        assert_eq!(rt; !text.starts_with("4"), *is_taken, "end {end}");
     }
     Ok(())
 }
@@ -319,33 +166,8 @@ const GIVEN_ENDS: [(&str, bool); 3] = [("\u{e9}", true), ("xyz", false), ("x\u{e
 
 #[test]
 fn takes_names_of_1_to_249_bytes(rt: HostRuntime) -> Result<(), Fail> {
-    given_names_are_taken(&rt, rt.alloc(), &GIVEN_ENDS)
-}
-
-/// What an Assign of instance `c1` in group `g` with this body reads as.
-fn shown_assign(alloc: Global, body: &[u8]) -> Result<String, Fail> {
-    let path = path_of(alloc, "/assignments")?;
-    told(alloc, "POST", path.as_str(), "", "", body)
-}
-
-/// Each body of an Assign reads as the text beside it.
-fn assignments_read_as(
-    rt: &impl Abort,
-    alloc: Global,
-    cases: &[(&[u8], &str)],
-) -> Result<(), Fail> {
-    for (place, (body, want)) in cases.iter().enumerate() {
-        reads_as(rt, shown_assign(alloc, body), want, place)?;
-    }
-    Ok(())
-}
-
-/// No body of an Assign reads.
-fn assignments_are_refused(rt: &impl Abort, alloc: Global, bodies: &[&[u8]]) -> Result<(), Fail> {
-    for (place, body) in bodies.iter().enumerate() {
-        reads_as(rt, shown_assign(alloc, body), UNREADABLE, place)?;
-    }
-    Ok(())
+    let body = ("{\"name\":\"", 247, "\"}");
+    ends_are_taken(&rt, rt.alloc(), CREATE, body, &GIVEN_ENDS)
 }
 
 const ASSIGNMENTS: [(&[u8], &str); 3] = [
@@ -362,7 +184,7 @@ const ASSIGNMENTS: [(&[u8], &str); 3] = [
 
 #[test]
 fn reads_the_parts_of_an_assignment(rt: HostRuntime) -> Result<(), Fail> {
-    assignments_read_as(&rt, rt.alloc(), &ASSIGNMENTS)
+    bodies_read_as(&rt, rt.alloc(), ASSIGN, &ASSIGNMENTS)
 }
 
 const BAD_ASSIGNMENTS: [&[u8]; 14] = [
@@ -384,73 +206,17 @@ const BAD_ASSIGNMENTS: [&[u8]; 14] = [
 
 #[test]
 fn refuses_an_assignment_that_does_not_read(rt: HostRuntime) -> Result<(), Fail> {
-    assignments_are_refused(&rt, rt.alloc(), &BAD_ASSIGNMENTS)
-}
-
-/// An Assign whose topic has 248 bytes and each end is taken, or not.
-fn topics_are_taken(rt: &impl Abort, alloc: Global, cases: &[(&str, bool)]) -> Result<(), Fail> {
-    let long = repeated(alloc, 248, "/")?;
-    let long = long.as_str();
-    let path = path_of(alloc, "/assignments")?;
-    let path = path.as_str();
-    for (end, is_taken) in cases {
-        let body = format!(in alloc;
-            "{{\"partitions\":[{{\"topic\":\"{long}{end}\",\"partition\":0}}]}}"
-        )?;
-        let is_topic = is_read(alloc, "POST", path, body.as_bytes())?;
-        assert_eq!(rt; is_topic, *is_taken, "topic {end}");
-    }
-    Ok(())
+    bodies_all_read_as(&rt, rt.alloc(), ASSIGN, &BAD_ASSIGNMENTS, UNREADABLE)
 }
 
 const TOPIC_ENDS: [(&str, bool); 4] = [("", true), ("x", true), ("xy", false), ("\u{e9}", false)];
 
 #[test]
 fn takes_topics_of_1_to_249_bytes_in_a_body(rt: HostRuntime) -> Result<(), Fail> {
-    topics_are_taken(&rt, rt.alloc(), &TOPIC_ENDS)
-}
-
-/// Each query of a Records reads as the text beside it.
-fn queries_read_as(rt: &impl Abort, alloc: Global, cases: &[(&str, &str)]) -> Result<(), Fail> {
-    let path = path_of(alloc, "/records")?;
-    let path = path.as_str();
-    for (place, (query, want)) in cases.iter().enumerate() {
-        reads_as(rt, told(alloc, "GET", path, query, "", b""), want, place)?;
-    }
-    Ok(())
-}
-
-// A field without `=` is a name with an empty value: URL Standard, application/x-www-form-urlencoded.
-const QUERIES: [(&str, &str); 17] = [
-    ("", "records g c1"),
-    ("timeout=25", "records g c1 timeout 25"),
-    ("max_bytes=1", "records g c1 max_bytes 1"),
-    (
-        "max_bytes=1&timeout=25",
-        "records g c1 timeout 25 max_bytes 1",
-    ),
-    ("timeout=0&timeout=7&timeout=x", "records g c1 timeout 0"),
-    ("a=1&&timeout=5&=9&", "records g c1 timeout 5"),
-    (
-        "timeout=099999999999999999",
-        "records g c1 timeout 99999999999999999",
-    ),
-    (
-        "Timeout=x&xtimeout=x&tim%65out=x&x=timeout=5",
-        "records g c1",
-    ),
-    ("timeout=0000000000000000001", UNREADABLE),
-    ("timeout=", UNREADABLE),
-    ("timeout", UNREADABLE),
-    ("timeout=2a", UNREADABLE),
-    ("timeout=-1", UNREADABLE),
-    ("timeout=+1", UNREADABLE),
-    ("timeout==1", UNREADABLE),
-    ("timeout=x&timeout=1", UNREADABLE),
-    ("timeout=1&max_bytes=x", UNREADABLE),
-];
-
-#[test]
-fn reads_the_limits_of_a_query(rt: HostRuntime) -> Result<(), Fail> {
-    queries_read_as(&rt, rt.alloc(), &QUERIES)
+    let body = (
+        "{\"partitions\":[{\"partition\":0,\"topic\":\"",
+        248,
+        "\"}]}",
+    );
+    ends_are_taken(&rt, rt.alloc(), ASSIGN, body, &TOPIC_ENDS)
 }

@@ -2,25 +2,23 @@
 use Rattle.std.specs.Prelude.{ℕ, Bool, ◌&&◌, ◌==◌, List, length, take, drop, Option, Some, None, option_map, option_and_then, if◌then◌else◌, nat_lt, codes}
 use Rattle.std.specs.List.{position_or_len, before_first, after_first}
 use Rattle.std.specs.Str.{bytes_eq}
-use Rattle.model.specs.World.{Key}
 use Rattle.http_conn.specs.declared.request.Request.{Request}
-use Rattle.rest_calls.specs.Views.{key_in}
-use Rattle.rest_calls.specs.Path.{is_topic_name, topic_of}
-use Rattle.rest_calls.specs.declared.place.Ask.{Ask}
-use Rattle.rest_calls.specs.declared.place.Ask.TheVariants.{Delete, Assign, Assignments, Records}
-use Rattle.rest_calls.specs.declared.place.Place.{Place as Sent}
-use Rattle.rest_calls.specs.declared.place.Place.TheVariants as sent
+use Rattle.rest_routes.specs.Path.{is_topic_name, topic_of}
+use Rattle.rest_routes.specs.declared.place.Ask.{Ask}
+use Rattle.rest_routes.specs.declared.place.Ask.TheVariants.{Delete, Assign, Assignments, Records}
+use Rattle.rest_routes.specs.declared.place.Place.{Place as Sent}
+use Rattle.rest_routes.specs.declared.place.Place.TheVariants as sent
 
 -- a topic, a group, or an instance of a group and what is asked of it
 pub data Place : Type 0 where
   Topic Group : List ℕ → Place
-  Instance : Key → Ask → Place
+  Instance : (group name : List ℕ) → Ask → Place
 
 -- the place that is seen so
 abbrev pub place_view : Sent → Place
 place_view (sent.Topic topic) = Topic topic.now
 place_view (sent.Group group) = Group group.now
-place_view (sent.Instance group instance ask) = Instance (key_in group.now instance.now) ask
+place_view (sent.Instance group instance ask) = Instance group.now instance.now ask
 
 -- a slash
 abbrev pub is_slash : ℕ → Bool
@@ -55,7 +53,7 @@ ask_of method (Some end) =
 unfoldable pub instance_at : (method group rest : List ℕ) → Option Place
 instance_at method group rest =
     if is_topic_name (first_part rest)
-    then option_map (Instance (key_in group (first_part rest))) (ask_of method (behind_part rest)) else None
+    then option_map (Instance group (first_part rest)) (ask_of method (behind_part rest)) else None
 
 -- a POST is sent to the group itself, and all else to one of its instances
 unfoldable pub place_behind : (method group : List ℕ) → Option (List ℕ) → Option Place

@@ -2,9 +2,9 @@ use Rattle.std.proofs.Common.{rules, ◌≡◌, ◌<◌, ◌≤◌, ◌^◌, len
 use Rattle.std.specs.List.{list_all}
 use Rattle.std.specs.Char.{is_ascii_digit}
 use Rattle.std.specs.Str.Parse.{digits_value}
-use Rattle.rest_calls.specs.Query.{amount_of}
-use Rattle.rest_calls.proofs.Numbers.{value_of_few, some_where}
-use Rattle.rest_calls.proofs.query.amount_of.Goals as goal
+use Rattle.rest_routes.specs.Query.{amount_of}
+use Rattle.rest_routes.proofs.Numbers.{value_of_few, some_where}
+use Rattle.rest_routes.proofs.query.amount_of.Goals as goal
 
 pub returns : goal.returns
 unfolding amount_of

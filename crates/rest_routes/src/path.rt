@@ -1,6 +1,6 @@
 ghost use Rattle.std.specs.Prelude.{◌≡◌, option_map, codes};
 ghost use Rattle.std.specs.List.{list_all};
-ghost use Rattle.rest_calls.specs.Path.{is_name_byte, is_topic_name, after_topics, topic_in, is_binary, topic_of};
+ghost use Rattle.rest_routes.specs.Path.{is_name_byte, is_topic_name, after_topics, topic_in, is_binary, topic_of};
 
 use gate_io::Items;
 use http_conn::Request;

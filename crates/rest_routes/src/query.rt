@@ -1,12 +1,12 @@
 ghost use Rattle.std.specs.Prelude.{◌≡◌, option_map};
-ghost use Rattle.rest_calls.specs.Query.{value_in, pieces_of, cut_of, first_value, amount_of, given_in, limits_of};
+ghost use Rattle.rest_routes.specs.Query.{value_in, pieces_of, cut_of, first_value, amount_of, given_in, limits_of};
 
 use crate::digits::{are_digits, number_in};
 
 /// The longest wait in milliseconds, and the most bytes, of a read of records: where the query
 /// gives them.
 #[derive(Clone, Copy, Debug)]
-pub(crate) struct Limits {
+pub struct Limits {
     pub timeout: Option<u64>,
     pub max_bytes: Option<u64>,
 }
@@ -68,10 +68,13 @@ fn given_in(name: &str, query: &str) -> Option<Option<u64>>
 
 /// The limits that a query gives. None where one of them doesn't read.
 #[tactic(auto, unfolding(crate::specs::Query::limits_of))]
-pub(crate) fn limits_of(query: &str) -> Option<Limits>
+pub fn limits_of(query: &str) -> Option<Limits>
     ensures { result ≡ limits_of query.now }
 {
     let timeout = given_in("timeout", query)?;
     let max_bytes = given_in("max_bytes", query)?;
     Some(Limits { timeout, max_bytes })
 }
+
+#[cfg(test)]
+mod tests;

@@ -1,12 +1,12 @@
 ghost use Rattle.std.specs.Prelude.{◌≡◌, option_map};
-ghost use Rattle.rest_calls.specs.Place.{first_part, behind_part, after_consumers, after_instances, ask_of, instance_at, place_behind, consumer_at, place_of, place_view};
+ghost use Rattle.rest_routes.specs.Place.{first_part, behind_part, after_consumers, after_instances, ask_of, instance_at, place_behind, consumer_at, place_of, place_view};
 
 use crate::path::{is_topic_name, topic_of};
 use http_conn::Request;
 
 /// What is asked of an instance.
 #[derive(Clone, Copy, Debug, PartialEq, Eq)]
-pub(crate) enum Ask {
+pub enum Ask {
     Delete,
     Assign,
     Assignments,
@@ -15,7 +15,7 @@ pub(crate) enum Ask {
 
 /// To what a request is sent: a topic's records, a group, or an instance of a group.
 #[derive(Clone, Copy, Debug)]
-pub(crate) enum Place<'a> {
+pub enum Place<'a> {
     Topic(&'a str),
     Group(&'a str),
     Instance(&'a str, &'a str, Ask),
@@ -98,7 +98,7 @@ fn consumer_at<'a>(method: &str, path: &'a str) -> Option<Place<'a>>
 
 /// The place of a request. None where the gateway has none.
 #[tactic(auto, unfolding(crate::specs::Place::place_of))]
-pub(crate) fn place_of(request: &Request) -> Option<Place<'_>>
+pub fn place_of(request: &Request) -> Option<Place<'_>>
     ensures { option_map place_view result ≡ place_of request.now }
 {
     match topic_of(request) {
@@ -106,3 +106,6 @@ pub(crate) fn place_of(request: &Request) -> Option<Place<'_>>
         None => consumer_at(request.method.as_str(), request.path.as_str()),
     }
 }
+
+#[cfg(test)]
+mod tests;

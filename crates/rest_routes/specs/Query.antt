@@ -4,7 +4,7 @@ use Rattle.std.specs.List.{list_all, slice_split, position_or_len, before_first,
 use Rattle.std.specs.Str.{bytes_eq}
 use Rattle.std.specs.Str.Parse.{digits_value}
 use Rattle.std.specs.Char.{is_ascii_digit}
-use Rattle.rest_calls.specs.declared.query.Limits.{Limits}
+use Rattle.rest_routes.specs.declared.query.Limits.{Limits}
 
 -- an ampersand
 abbrev pub is_joint : ℕ → Bool

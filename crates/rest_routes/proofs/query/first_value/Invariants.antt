@@ -1,8 +1,8 @@
 use Rattle.std.proofs.Common.{◌≡◌, length}
 use denote.Text.{Utf8}
 use denote.Shadow.{shadow}
-use Rattle.rest_calls.specs.Query.{first_value, pieces_of}
-use Rattle.rest_calls.proofs.query.first_value.Given as goal
+use Rattle.rest_routes.specs.Query.{first_value, pieces_of}
+use Rattle.rest_routes.proofs.query.first_value.Given as goal
 
 abbrev pub invariant-loop-field : goal.invariant-loop-field
 invariant-loop-field l =

@@ -1,6 +1,6 @@
 use Rattle.std.proofs.Common.{rules, ◌∙◌, sym}
-use Rattle.rest_calls.proofs.Pieces.{this_field, next_field, one_field}
-use Rattle.rest_calls.proofs.query.first_value.Goals as goal
+use Rattle.rest_routes.proofs.Pieces.{this_field, next_field, one_field}
+use Rattle.rest_routes.proofs.query.first_value.Goals as goal
 
 pub returns-in-Some-value_in : goal.returns-in-Some-value_in
 returns-in-Some-value_in c =
