@@ -4,13 +4,7 @@ use Rattle.std.specs.List.{list_all, list_any, position_or_len, before_first, af
 use Rattle.std.specs.Str.{bytes_eq}
 use Rattle.std.specs.Str.Parse.{digits_value}
 use Rattle.std.specs.Char.{is_ascii_digit}
-<<<<<<< HEAD:crates/command_words/specs/Topics.antt
-use Rattle.rest_calls.specs.Path.{is_topic_name}
-=======
 use Rattle.rest_routes.specs.Path.{is_topic_name}
-use Rattle.proxy_cli.specs.declared.words.Command.{Command}
-use Rattle.proxy_cli.specs.declared.words.Command.TheVariants.{Session}
->>>>>>> dec5457b61f21b035517269ff6bc5b47d8785173:crates/proxy_cli/specs/Words.antt
 
 -- a topic's name that isn't one or two dots
 unfoldable pub is_given_name : List ℕ → Bool
