@@ -15,8 +15,6 @@ mod pick;
 mod read;
 mod reader;
 mod schema;
-#[cfg(test)]
-mod tests;
 
 pub use error::SchemaNo;
 pub use law::{canonical_forms_read_back, names_of_a_schema_differ};
