@@ -8,10 +8,10 @@ use Rattle.std.specs.Char.{digit_char}
 use Rattle.std.specs.Int.{IsInRange}
 use Rattle.std.specs.List.{AllByRecursion}
 use Rattle.json.specs.Print.{escape_letter, escape_byte, escape}
-use Rattle.json_span.specs.Chars.{IsChars, next_inside, after_plain, within, is_hex, is_short, is_high, short_escape, code_unit, char_bytes, content, content_behind}
-use Rattle.json_span.proofs.Escapes.{content_nil}
+use Rattle.json_token.specs.Chars.{IsChars, next_inside, after_plain, within, is_hex, is_short, is_high, short_escape, code_unit, char_bytes, content, content_behind}
+use Rattle.json_token.proofs.Escapes.{content_nil}
 use Rattle.json_span.proofs.Spelling.{chars_join}
-use Rattle.json_span.proofs.Utf8Lemmas.{encode_two, encode_three, encode_four}
+use Rattle.json_token.proofs.Utf8Lemmas.{encode_two, encode_three, encode_four}
 use lib.Utf8.{scalar, scalars, encode, encodes, next, low_scalar, scalar_cases}
 
 -- the characters s stand for the bytes

@@ -7,10 +7,10 @@ use Rattle.std.proofs.lemmas.Str.Parse.{IsDigitsTest, IsNumeralModel, numerals_b
 use Rattle.std.specs.Fmt.{signed_decimal}
 use Rattle.std.specs.Fmt as fmt
 use Rattle.std.specs.List.{list_all}
-use Rattle.json_span.specs.Grammar.{AreDigits, IsUnsigned}
-use Rattle.json_span.specs.Integer.{decimal, magnitude_of, above, below, integer_of}
-use Rattle.json_span.specs.Number.{IsNumber, is_digit, is_leading}
-use Rattle.json_span.proofs.NumberGrammar.{numeral_number}
+use Rattle.json_token.specs.Grammar.{AreDigits, IsUnsigned}
+use Rattle.json_token.specs.Integer.{decimal, magnitude_of, above, below, integer_of}
+use Rattle.json_token.specs.Number.{IsNumber, is_digit, is_leading}
+use Rattle.json_token.proofs.NumberGrammar.{numeral_number}
 use lib.Signed.{mag}
 
 tells : IsDigitsTest AreDigits

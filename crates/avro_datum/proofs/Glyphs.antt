@@ -8,9 +8,9 @@ use Rattle.std.specs.Fmt.{signed_decimal}
 use Rattle.std.specs.List.{AllByRecursion}
 use Rattle.std.specs.Str.{chars, is_utf8, encode_utf8_all}
 use Rattle.json.specs.Print.{escape}
-use Rattle.json_span.specs.Chars.{IsChars, content}
-use Rattle.json_span.specs.Integer.{integer_of}
-use Rattle.json_span.specs.Number.{IsNumber}
+use Rattle.json_token.specs.Chars.{IsChars, content}
+use Rattle.json_token.specs.Integer.{integer_of}
+use Rattle.json_token.specs.Number.{IsNumber}
 use Rattle.avro_datum.proofs.GlyphChars.{encodes_is}
 use Rattle.avro_datum.proofs.GlyphNumbers.{signed_is}
 use lib.Utf8.{scalars, low_scalar}

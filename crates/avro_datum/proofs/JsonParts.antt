@@ -1,8 +1,8 @@
 -- From the parts of a JSON value to its levels and its tokens, and from these to its text.
 use Rattle.std.proofs.Common.{◌≡◌, ℕ, zero, suc, ◌+◌, List, [], ◌∷◌, ◌++◌, refl, sym, subst, arith}
-use Rattle.json_span.specs.Json.{Json, Token, tokens, IsWithin}
-use Rattle.json_span.specs.Text.{compact, Laid, IsText}
-use Rattle.json_span.specs.Tree.{AreTokens}
+use Rattle.json_span.specs.Json.{Json, tokens, IsWithin}
+use Rattle.json_token.specs.Tokens.{Token, Laid, AreTokens}
+use Rattle.json_span.specs.Text.{compact, IsText}
 use Rattle.json_span.proofs.Lookups.{laid_compact}
 use Rattle.avro_schema.proofs.GoodReading.{within_more}
 

@@ -9,7 +9,7 @@ use Rattle.avro_schema.specs.Reading.{is_among}
 use Rattle.avro_schema.specs.Distinct.{AreDistinct, HasNames, BranchesHaveNames, branch_names}
 use Rattle.json_span.specs.Json as json
 use Rattle.json_span.specs.Json.{Json, Members}
-use Rattle.json_span.specs.Chars.{content}
+use Rattle.json_token.specs.Chars.{content}
 use Rattle.avro_datum.specs.Value.{Values, no_values, value}
 use Rattle.avro_datum.specs.Judging.{branch_at}
 use Rattle.json_span.specs.Parts.{last_member, later}

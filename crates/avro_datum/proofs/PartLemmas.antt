@@ -17,7 +17,7 @@ use Rattle.avro_schema.specs.Nodes.{SchemaValue, StandForBranches, StandForField
 use Rattle.avro_schema.specs.declared.parts.Field.{Field}
 use Rattle.json_span.specs.Json as json
 use Rattle.json_span.specs.Json.{Json, Items, Members}
-use Rattle.json_span.specs.Chars.{content}
+use Rattle.json_token.specs.Chars.{content}
 use Rattle.json_span.specs.Nodes.{Stands, StandForMembers}
 use Rattle.json_span.specs.declared.tree.Tree.{Tree}
 use Rattle.json_span.specs.declared.tree.Member.{Member}

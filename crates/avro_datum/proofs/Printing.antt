@@ -7,11 +7,13 @@ use Rattle.json.specs.Token as token
 use Rattle.json.specs.Token.{Token}
 use Rattle.json.specs.Print.{print_from, print, escape}
 use Rattle.json_span.specs.Json as json
+use Rattle.json_token.specs.Tokens as json_tokens
 use Rattle.json_span.specs.Json.{Json, Items, Members, tokens, item_tokens, more_item_tokens, member_tokens, more_member_tokens}
-use Rattle.json_span.specs.Text.{spelled, compact}
+use Rattle.json_span.specs.Text.{compact}
+use Rattle.json_token.specs.Tokens.{spelled}
 
 -- the bytes of these tokens
-abbrev spell : List json.Token → List ℕ
+abbrev spell : List json_tokens.Token → List ℕ
 spell ts = flat_map spelled ts
 
 -- the tokens print as the value, whatever comes behind them
@@ -61,7 +63,7 @@ unfolding print_from
 no_items_print = record { first = λ rest. refl; later = λ rest. refl }
 
 -- what comes behind a value, in front of the rest
-spell_behind : (j : Json) (more : List json.Token) (p q : List ℕ) → q ≡ spell more ++ p → compact j ++ q ≡ spell (tokens j ++ more) ++ p
+spell_behind : (j : Json) (more : List json_tokens.Token) (p q : List ℕ) → q ≡ spell more ++ p → compact j ++ q ≡ spell (tokens j ++ more) ++ p
 spell_behind j more p q e = ap (λ x. compact j ++ x) e ∙ sym (append_assoc (compact j) (spell more) p) ∙ ap (λ x. x ++ p) (sym (flat_map-append spelled (tokens j) more))
 
 pub item_prints : (ts us : List Token) (j : Json) (js : Items) → Prints ts j → PrintsItems us js → PrintsItems (ts ++ us) (json.item j js)

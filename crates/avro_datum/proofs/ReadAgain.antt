@@ -6,8 +6,8 @@ use Rattle.avro_schema.specs.Types as schema
 use Rattle.avro_schema.specs.Types.{AvroType, Branches, Fields, resolved}
 use Rattle.json_span.specs.Json as json
 use Rattle.json_span.specs.Json.{Json, Items, Members}
-use Rattle.json_span.specs.Chars.{content}
-use Rattle.json_span.specs.Integer.{integer_of}
+use Rattle.json_token.specs.Chars.{content}
+use Rattle.json_token.specs.Integer.{integer_of}
 use Rattle.avro_datum.specs.declared.error.AvroNo.{AvroNo}
 use Rattle.avro_datum.specs.declared.error.AvroNo.TheVariants.{Mismatch}
 use Rattle.avro_datum.specs.Steps.{◌>>=◌}

@@ -12,7 +12,7 @@ use Rattle.avro_schema.specs.declared.schema.Kind.{Kind}
 use Rattle.avro_schema.specs.declared.schema.Kind.TheVariants as kinds
 use Rattle.json_span.specs.Json as json
 use Rattle.json_span.specs.Json.{Json, Items, Members}
-use Rattle.json_span.specs.Chars.{content}
+use Rattle.json_token.specs.Chars.{content}
 use Rattle.json_span.specs.Nodes.{Stands, StandForItems, StandForMembers}
 use Rattle.json_span.specs.Nodes as values
 use Rattle.json_span.specs.declared.tree.Tree.{Tree}

@@ -11,11 +11,11 @@ use Rattle.json.specs.Token.{Token}
 use Rattle.json.specs.Print.{escape, print}
 use Rattle.json_span.specs.Json as json
 use Rattle.json_span.specs.Json.{Json, Items, Members, tokens, item_tokens, more_item_tokens, member_tokens, more_member_tokens, IsWithin, ItemsWithin, MembersWithin}
-use Rattle.json_span.specs.Chars.{IsChars, content}
-use Rattle.json_span.specs.Number.{IsNumber}
-use Rattle.json_span.specs.Integer.{integer_of}
+use Rattle.json_token.specs.Chars.{IsChars, content}
+use Rattle.json_token.specs.Number.{IsNumber}
+use Rattle.json_token.specs.Integer.{integer_of}
 use Rattle.json_span.specs.Text.{IsText}
-use Rattle.json_span.specs.Tree.{AreTokens}
+use Rattle.json_token.specs.Tokens.{AreTokens}
 use Rattle.avro_schema.specs.Types as schema
 use Rattle.avro_schema.specs.Types.{AvroType, Fields, resolved, branch_name}
 use Rattle.avro_schema.specs.Reading.{is_among}

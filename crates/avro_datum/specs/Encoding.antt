@@ -9,8 +9,8 @@ pub use Rattle.avro_schema.specs.Distinct.{branch_names}
 pub use Rattle.avro_schema.specs.NameList.{place_of}
 use Rattle.json_span.specs.Json as json
 use Rattle.json_span.specs.Json.{Json, Items, Members}
-use Rattle.json_span.specs.Chars.{content}
-use Rattle.json_span.specs.Integer.{integer_of}
+use Rattle.json_token.specs.Chars.{content}
+use Rattle.json_token.specs.Integer.{integer_of}
 use Rattle.json_span.specs.Parts.{last_member}
 use Rattle.avro_datum.specs.Value.{Value, Values, Entries, null, boolean, int, long, bytes, string, fixed, symbol, branch, fields, items, entries, no_values, value, no_entries, entry}
 use Rattle.avro_datum.specs.Judging.{is_null, branch_at}

@@ -5,7 +5,7 @@ ghost use Rattle.avro_schema.specs.Nodes.{Resolves};
 ghost use Rattle.avro_schema.specs.Types.{enum_};
 ghost use Rattle.json_span.specs.Json.{Json};
 ghost use Rattle.json_span.specs.Nodes.{HasNode, Stands};
-ghost use Rattle.json_span.specs.Number.{is_digit};
+ghost use Rattle.json_token.specs.Number.{is_digit};
 ghost use Rattle.avro_datum.specs.declared.error.AvroNo.TheVariants.{Mismatch, Range};
 ghost use Rattle.avro_datum.specs.Parts.{Gives};
 ghost use Rattle.avro_datum.specs.Reading.{fixed_at, flag_at, integer_at, null_at, placed, points_at, points_of, ranged, symbol_at, text_at};

@@ -3,7 +3,7 @@ use Rattle.std.proofs.Common.{◌≡◌, ℕ, zero, suc, ◌≤◌, List, [], �
 use Rattle.std.specs.Prelude.{codes, decimal}
 use Rattle.std.specs.Str.{bytes_eq}
 use Rattle.json_span.specs.Json.{Json, Items, Members, text, number, array as list, object, no_items, item, no_members, member}
-use Rattle.json_span.specs.Chars.{content, content_behind}
+use Rattle.json_token.specs.Chars.{content, content_behind}
 use Rattle.avro_schema.specs.Types.{AvroType, Branches, Fields, null, boolean, int, long, bytes, string, array, map, union, fixed, enum_, record_, named, no_branches, branch, no_fields, field, branch_name}
 use Rattle.avro_schema.specs.Names.{is_part, is_float, is_definable, namespace_of}
 use Rattle.avro_schema.specs.Reading.{Read, Outcome, Reader, FieldType, next, reads, is_among, known, type_by_name, new_name, defined_name, part_name, symbols_read, digits_size, field_read, fields_read, branch_read, branches_read, object_by_word, reader}

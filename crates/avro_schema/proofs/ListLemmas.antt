@@ -5,7 +5,7 @@ use Rattle.std.proofs.Math.Seq.{drop-cons}
 use Rattle.std.proofs.lemmas.List.{append-nil}
 use Rattle.std.proofs.lemmas.Bool.Decides.{nat_tests}
 use Rattle.json_span.specs.Json.{Json, Items, no_items, item}
-use Rattle.json_span.specs.Integer.{decimal}
+use Rattle.json_token.specs.Integer.{decimal}
 use Rattle.json_span.specs.Nodes.{Stands, StandForItems}
 use Rattle.json_span.specs.declared.tree.Tree.{Tree}
 use Rattle.avro_schema.specs.Reading.{next, part_name, symbols_read, are_digits, digits_size}

@@ -4,10 +4,10 @@ use Rattle.std.specs.Prelude.{fold, decimal, nat_le}
 use Rattle.std.proofs.lemmas.Fmt.{decimal_by_steps}
 use Rattle.std.proofs.lemmas.Bool.Decides.{nat_tests}
 use Rattle.std.proofs.lemmas.List.{append-nil}
-use Rattle.json_span.specs.Number.{is_digit, is_leading, IsNumber}
-use Rattle.json_span.specs.Grammar.{AreDigits, IsNumeral}
-use Rattle.json_span.specs.Integer as integer
-use Rattle.json_span.proofs.NumberGrammar.{numeral_number}
+use Rattle.json_token.specs.Number.{is_digit, is_leading, IsNumber}
+use Rattle.json_token.specs.Grammar.{AreDigits, IsNumeral}
+use Rattle.json_token.specs.Integer as integer
+use Rattle.json_token.proofs.NumberGrammar.{numeral_number}
 use Rattle.avro_schema.specs.Reading.{are_digits, digits_size}
 use Rattle.avro_schema.specs.declared.error.SchemaNo.TheVariants.{BadType}
 

@@ -3,8 +3,8 @@ use Rattle.std.proofs.Common.{◌≡◌, ℕ, zero, suc, List, [], ◌∷◌, �
 use Rattle.std.specs.Prelude.{codes, nat_le}
 use Rattle.std.specs.Str.{bytes_eq}
 use Rattle.json_span.specs.Json.{Json, Items, Members, null, boolean, number, text, array, object, no_items, item}
-use Rattle.json_span.specs.Chars.{content}
-use Rattle.json_span.specs.Integer.{decimal}
+use Rattle.json_token.specs.Chars.{content}
+use Rattle.json_token.specs.Integer.{decimal}
 use Rattle.avro_schema.specs.Types as types
 use Rattle.avro_schema.specs.Types.{AvroType, Fields, Branches, branch, field, branch_name}
 use Rattle.avro_schema.specs.Canonical.{canonical_form}

@@ -4,9 +4,8 @@ use Rattle.std.specs.Prelude.{codes}
 use Rattle.std.specs.List.{flat_map}
 use Rattle.std.proofs.lemmas.List.{append-nil}
 use Rattle.std.proofs.lemmas.Grind.{flat_map-append}
-use Rattle.json_span.specs.Json.{object, no_members, member, Token, end_object, tokens, item_tokens, more_item_tokens}
-use Rattle.json_span.specs.Text.{spelled, Laid}
-use Rattle.json_span.specs.Tree.{AreTokens}
+use Rattle.json_span.specs.Json.{object, no_members, member, tokens, item_tokens, more_item_tokens}
+use Rattle.json_token.specs.Tokens.{Token, end_object, spelled, Laid, AreTokens}
 use Rattle.avro_schema.specs.Types.{AvroType, Branches, Fields, null, boolean, int, long, bytes, string, array, map, union, fixed, enum_, record_, named, no_branches, branch, no_fields, field, branch_name}
 use Rattle.avro_schema.specs.Canonical.{quote, canonical_form, symbol_list, more_symbols, branch_list, more_branches, field_list, more_fields}
 use Rattle.avro_schema.proofs.PlainNames.{plain_chars, part_plain, definable_plain}

@@ -4,7 +4,7 @@ use Rattle.std.specs.Prelude.{codes}
 use Rattle.std.specs.Str.{bytes_eq}
 use Rattle.std.proofs.lemmas.Option.{slice_get_within, get_or_from_slice_get}
 use Rattle.json_span.specs.Json.{Json, Items, Members, null, boolean, number, text, array, object}
-use Rattle.json_span.specs.Chars.{content}
+use Rattle.json_token.specs.Chars.{content}
 use Rattle.json_span.specs.Nodes.{Stands, kind_of}
 use Rattle.json_span.specs.declared.tree.Tree.{Tree}
 use Rattle.json_span.specs.declared.tree.Kind.TheVariants as kinds

@@ -2,11 +2,11 @@
 -- cause in reading order. An object is read by its `type`, then its name, then its parts.
 use Rattle.std.specs.Prelude.{◌≡◌, ℕ, zero, suc, List, [], ◌∷◌, ◌++◌, length, Bool, true, false, cond, ◌||◌, ◌&&◌, nat_le, codes, bytes_eq, Option, Some, None, Result, Ok, Err}
 use Rattle.json_span.specs.Json.{Json, Items, Members, number, text, array, object, no_items, item, no_members, member}
-use Rattle.json_span.specs.Chars.{content}
+use Rattle.json_token.specs.Chars.{content}
 use Rattle.json_span.specs.Text.{IsText}
 use Rattle.json_span.specs.Refusals.{max_levels}
-use Rattle.json_span.specs.Number.{is_digit}
-use Rattle.json_span.specs.Integer.{decimal}
+use Rattle.json_token.specs.Number.{is_digit}
+use Rattle.json_token.specs.Integer.{decimal}
 use Rattle.json_span.specs.Parts.{last_member}
 use Rattle.avro_schema.specs.Types as types
 use Rattle.avro_schema.specs.Types.{AvroType, Branches, Fields, no_branches, branch, no_fields, field, branch_name}

@@ -2,13 +2,13 @@
 use Rattle.std.proofs.Common.{◌≡◌, ℕ, List, [], ◌∷◌, ◌++◌, true, false, cond, ◌||◌, ◌==◌, Some, refl, sym, ap, ◌∙◌, arith}
 use Rattle.std.proofs.lemmas.Bool.Decides.{nat_tests}
 use Rattle.std.proofs.lemmas.Bool.{false≢true}
-use Rattle.json_span.specs.Json.{Json, Token, begin_array, end_array, begin_object, end_object, comma, colon, null_name, true_name, false_name, numeral, quoted}
-use Rattle.json_span.specs.Text.{is_blank, spelled, IsToken, Laid}
-use Rattle.json_span.specs.Number.{IsNumber, next_part, is_digit, is_leading, after_minus}
-use Rattle.json_span.specs.Number as number
+use Rattle.json_span.specs.Json.{Json}
+use Rattle.json_token.specs.Tokens.{Token, begin_array, end_array, begin_object, end_object, comma, colon, null_name, true_name, false_name, numeral, quoted, is_blank, spelled, IsToken, Laid}
+use Rattle.json_token.specs.Number.{IsNumber, next_part, is_digit, is_leading, after_minus}
+use Rattle.json_token.specs.Number as number
 use Rattle.json_span.specs.Reading.{Bytes}
-use Rattle.json_span.specs.declared.number.Part.{Part}
-use Rattle.json_span.specs.declared.number.Part.TheVariants.{Start}
+use Rattle.json_token.specs.declared.number.Part.{Part}
+use Rattle.json_token.specs.declared.number.Part.TheVariants.{Start}
 
 -- a number's first byte stands for all of them
 abbrev pub class : ℕ → ℕ

@@ -1,17 +1,9 @@
-pub mod NumberWalks
-pub mod CharWalks
 pub mod AheadLemmas
 pub mod BytesLemmas
 pub mod ReadingLemmas
 pub mod Spelling
 pub mod States
-pub mod StepsLemmas
 pub mod Lifts
 pub mod Turns
-pub mod Escapes
-pub mod Utf8Lemmas
-pub mod ContentLemmas
 pub mod Lookups
-pub mod Digits
 pub mod MemberLemmas
-pub mod NumberGrammar

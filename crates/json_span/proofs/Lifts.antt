@@ -2,21 +2,23 @@
 use Rattle.std.proofs.Common.{◌≡◌, ℕ, zero, suc, ◌+◌, ◌-◌, ◌≤◌, List, [], ◌∷◌, ◌++◌, length, take, drop, true, false, cond, ◌==◌, Some, refl, sym, ap, ◌∙◌, subst, append_assoc, arith}
 use Rattle.std.specs.List.{slice_get, flat_map}
 use Rattle.std.proofs.lemmas.List.{append-nil, take_at, drop_at, take_all, take-append-le, drop-append-le, length-append, length-drop, drop-drop}
-use Rattle.json_span.specs.Json.{Json, Items, Members, null, boolean, number, text, array, object, no_items, item, no_members, member, Token, null_name, true_name, false_name, numeral, quoted, tokens}
-use Rattle.json_span.specs.Text.{is_blank, spelled, compact}
+use Rattle.json_span.specs.Json.{Json, Items, Members, null, boolean, number, text, array, object, no_items, item, no_members, member, tokens}
+use Rattle.json_token.specs.Tokens.{Token, null_name, true_name, false_name, numeral, quoted, is_blank, spelled, AreTokens}
+use Rattle.json_span.specs.Text.{compact}
 use Rattle.json_span.specs.Refusals.{Refuses}
 use Rattle.json_span.specs.Ahead.{Frame, in_array, in_object, Ahead, ValueAt, AfterAt, Expect}
 use Rattle.json_span.specs.Reading.{ReadsTo}
-use Rattle.json_span.specs.Tree.{StandsIn, ItemsIn, MembersIn, IsNode, AreTokens, HasContent}
-use Rattle.json_span.specs.Steps.{AtAny, AtEnd, Adds, Skips, QuotedTo, QuotedFails, NumberTo, NumberFails, begins_number, WordTo, WordFails, Holds, HoldsOne, opened}
+use Rattle.json_span.specs.Tree.{StandsIn, ItemsIn, MembersIn, IsNode, HasContent}
+use Rattle.json_span.specs.Steps.{AtAny, AtEnd, Adds, Holds, HoldsOne, opened}
+use Rattle.json_token.specs.TokenEnds.{Skips, QuotedTo, QuotedFails, NumberTo, NumberFails, begins_number, WordTo, WordFails}
 use Rattle.json_span.specs.declared.tree.Node.{Node}
 use Rattle.json_span.specs.declared.tree.Member.{Member}
 use Rattle.json_span.specs.declared.tree.Form.{Form}
 use Rattle.json_span.specs.declared.tree.Form.TheVariants.{Null, Bool as Flag, Number}
 use Rattle.json_span.specs.declared.state.Open.{Open}
 use Rattle.json_span.specs.declared.state.Open.TheVariants.{InArray, InObject}
-use Rattle.json_span.specs.declared.error.JsonNo.{JsonNo}
-use Rattle.json_span.specs.declared.error.JsonNo.TheVariants.{BadByte, Cut, TooDeep, Want}
+use Rattle.json_token.specs.declared.error.JsonNo.{JsonNo}
+use Rattle.json_token.specs.declared.error.JsonNo.TheVariants.{BadByte, Cut, TooDeep, Want}
 use Rattle.json_span.proofs.AheadLemmas.{Value-tokens, tokens-Value}
 use Rattle.json_span.proofs.BytesLemmas.{class, code, decode}
 use Rattle.json_span.proofs.ReadingLemmas.{Alive, IsFixed, ReadsTo-fixed}

@@ -3,19 +3,20 @@ use Rattle.std.proofs.Common.{◌≡◌, ℕ, zero, suc, ◌+◌, ◌-◌, ◌<�
 use Rattle.std.specs.List.{slice_get, flat_map}
 use Rattle.std.specs.Str.{IsUtf8}
 use Rattle.std.proofs.lemmas.List.{take_at, length-append, length-drop, drop-drop, append-nil, length-take-le, take-append-drop}
-use Rattle.json_span.specs.Json.{Json, null, boolean, number, text, array, object, Token, tokens, IsWithin}
-use Rattle.json_span.specs.Text.{spelled, compact, Laid, IsText}
-use Rattle.json_span.specs.Tree.{StandsIn, IsNode, AreTokens, items_of, members_of, HasContent}
+use Rattle.json_span.specs.Json.{Json, null, boolean, number, text, array, object, tokens, IsWithin}
+use Rattle.json_token.specs.Tokens.{Token, spelled, Laid, AreTokens}
+use Rattle.json_span.specs.Text.{compact, IsText}
+use Rattle.json_span.specs.Tree.{StandsIn, IsNode, items_of, members_of, HasContent}
 use Rattle.json_span.specs.Nodes.{kind_of, Stands, HasNode, IsOfKind}
 use Rattle.json_span.specs.declared.tree.Tree.{Tree}
-use Rattle.json_span.specs.Chars.{content, IsChars}
+use Rattle.json_token.specs.Chars.{content, IsChars}
 use Rattle.json_span.specs.declared.tree.Node.{Node}
 use Rattle.json_span.specs.declared.tree.Member.{Member}
 use Rattle.json_span.specs.declared.tree.Form.{Form}
 use Rattle.json_span.specs.declared.tree.Form.TheVariants.{Null, Bool as Flag, Number, Plain, Escaped, Array, Object}
 use Rattle.json_span.specs.declared.tree.Kind.{Kind}
 use Rattle.json_span.specs.declared.tree.Kind.TheVariants as kinds
-use Rattle.json_span.proofs.Utf8Lemmas.{tokens_utf8, chars_utf8}
+use Rattle.json_token.proofs.Utf8Lemmas.{tokens_utf8, chars_utf8}
 
 -- the node, whatever the value
 pub record Found (nodes : List Node) (source : List ℕ) (k : ℕ) (j : Json) : Type 0 where

@@ -4,7 +4,7 @@ use Rattle.std.specs.Option.{IfSome}
 use Rattle.std.specs.Str.{bytes_eq}
 use Rattle.std.proofs.Math.Seq.{drop-cons}
 use Rattle.json_span.specs.Json.{Json, Members, no_members, member}
-use Rattle.json_span.specs.Chars.{content}
+use Rattle.json_token.specs.Chars.{content}
 use Rattle.json_span.specs.Nodes.{Stands, StandForMembers, HasNode}
 use Rattle.json_span.specs.declared.tree.Tree.{Tree}
 use Rattle.json_span.specs.declared.tree.Member.{Member}

@@ -2,12 +2,13 @@
 use Rattle.std.proofs.Common.{◌≡◌, ℕ, ◌+◌, ◌≤◌, List, [], ◌∷◌, ◌++◌, length, take, drop, true, false, Option, Some, None, refl, sym, ap, ◌∙◌, subst, append_assoc, arith}
 use Rattle.std.proofs.lemmas.Bool.Decides.{nat_tests}
 use Rattle.std.proofs.lemmas.List.{append-nil, take_at, drop_at, take-append-drop, length-append, length-take-le, append_cancel_left, length-drop}
-use Rattle.json_span.specs.Json.{Json, Items, Members, null, boolean, number, text, array, object, no_items, item, no_members, member, Token, IsWithin, ItemsWithin, MembersWithin}
-use Rattle.json_span.specs.Text.{is_blank, spelled, IsToken, Laid, IsText}
-use Rattle.json_span.specs.Number.{next_part}
+use Rattle.json_span.specs.Json.{Json, Items, Members, null, boolean, number, text, array, object, no_items, item, no_members, member, IsWithin, ItemsWithin, MembersWithin}
+use Rattle.json_token.specs.Tokens.{Token, is_blank, spelled, IsToken, Laid}
+use Rattle.json_span.specs.Text.{IsText}
+use Rattle.json_token.specs.Number.{next_part}
 use Rattle.json_span.specs.Refusals.{Begins, IsBadByte, IsCut, IsTooDeep}
-use Rattle.json_span.specs.declared.number.Part.{Part}
-use Rattle.json_span.specs.declared.number.Part.TheVariants.{Start, Whole, Zero, Digits, Point, Fraction, Mark, Sign, Exponent}
+use Rattle.json_token.specs.declared.number.Part.{Part}
+use Rattle.json_token.specs.declared.number.Part.TheVariants.{Start, Whole, Zero, Digits, Point, Fraction, Mark, Sign, Exponent}
 use Rattle.json_span.specs.Ahead.{Ahead}
 use Rattle.json_span.specs.Reading.{Bytes, Follow, ReadsTo}
 use Rattle.json_span.proofs.BytesLemmas.{Front-Bytes, Front-code, Laid-blank, blank-Laid, token_begins, token_by_code, token-Bytes, class, decode}

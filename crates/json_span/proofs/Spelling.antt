@@ -3,18 +3,18 @@ use Rattle.std.proofs.Common.{◌≡◌, ℕ, suc, ◌+◌, List, [], ◌∷◌,
 use Rattle.std.proofs.lemmas.Bool.{false≢true}
 use Rattle.std.proofs.lemmas.Bool.Decides.{nat_tests}
 use Rattle.std.proofs.lemmas.List.{append-nil, append_cancel_left}
-use Rattle.json_span.specs.Json.{Json, Token, begin_array, end_array, begin_object, end_object, comma, colon, null_name, true_name, false_name, numeral, quoted}
-use Rattle.json_span.specs.Text.{is_blank, spelled, IsToken, Laid}
-use Rattle.json_span.specs.Number.{next_part, may_end, IsNumber}
-use Rattle.json_span.specs.Number as number
-use Rattle.json_span.specs.Chars.{next_inside, IsChars}
-use Rattle.json_span.specs.Chars as chars
-use Rattle.json_span.specs.Scans.{StopsAt}
+use Rattle.json_span.specs.Json.{Json}
+use Rattle.json_token.specs.Tokens.{Token, begin_array, end_array, begin_object, end_object, comma, colon, null_name, true_name, false_name, numeral, quoted, is_blank, spelled, IsToken, Laid}
+use Rattle.json_token.specs.Number.{next_part, may_end, IsNumber}
+use Rattle.json_token.specs.Number as number
+use Rattle.json_token.specs.Chars.{next_inside, IsChars}
+use Rattle.json_token.specs.Chars as chars
+use Rattle.json_token.specs.Scans.{StopsAt}
 use Rattle.json_span.specs.Refusals.{IsBadByte, IsCut}
-use Rattle.json_span.specs.declared.number.Part.{Part}
-use Rattle.json_span.specs.declared.number.Part.TheVariants.{Start, Whole, Zero, Digits, Point, Fraction, Mark, Sign, Exponent}
-use Rattle.json_span.specs.declared.chars.Inside.{Inside}
-use Rattle.json_span.specs.declared.chars.Inside.TheVariants.{Plain, Tail1, Tail2, Tail3, AfterE0, AfterEd, AfterF0, AfterF4, Escape, Unit4, Unit3, Unit2, Unit1, UnitD, High2, High1, LowSlash, LowU, LowD, LowC}
+use Rattle.json_token.specs.declared.number.Part.{Part}
+use Rattle.json_token.specs.declared.number.Part.TheVariants.{Start, Whole, Zero, Digits, Point, Fraction, Mark, Sign, Exponent}
+use Rattle.json_token.specs.declared.chars.Inside.{Inside}
+use Rattle.json_token.specs.declared.chars.Inside.TheVariants.{Plain, Tail1, Tail2, Tail3, AfterE0, AfterEd, AfterF0, AfterF4, Escape, Unit4, Unit3, Unit2, Unit1, UnitD, High2, High1, LowSlash, LowU, LowD, LowC}
 use Rattle.json_span.specs.Ahead.{Ahead}
 use Rattle.json_span.specs.Reading.{Bytes, Follow, ReadsTo}
 use Rattle.json_span.proofs.BytesLemmas.{Front-Bytes, Front-code, token_by_code, token-Bytes, class}

@@ -2,8 +2,9 @@
 use Rattle.std.proofs.Common.{◌≡◌, ◌⊎◌, inl, inr, ℕ, suc, ◌+◌, ◌-◌, ◌<◌, ◌≤◌, List, [], ◌∷◌, ◌++◌, length, drop, get_or, Bool, true, false, ◌==◌, ◌||◌, None, refl, sym, ap, ◌∙◌, subst, arith}
 use Rattle.std.proofs.lemmas.Bool.{false≢true}
 use Rattle.std.proofs.lemmas.List.{drop_more, append-nil}
-use Rattle.json_span.specs.Json.{Json, Items, Members, null, boolean, number, text, array, object, no_items, item, no_members, member, Token, begin_array, end_array, begin_object, end_object, comma, colon, null_name, true_name, false_name, numeral, quoted, tokens, IsWithin}
-use Rattle.json_span.specs.Text.{is_blank, AreBlank, spelled, IsToken, Laid, IsText}
+use Rattle.json_span.specs.Json.{Json, Items, Members, null, boolean, number, text, array, object, no_items, item, no_members, member, tokens, IsWithin}
+use Rattle.json_token.specs.Tokens.{Token, begin_array, end_array, begin_object, end_object, comma, colon, null_name, true_name, false_name, numeral, quoted, is_blank, AreBlank, spelled, IsToken, Laid}
+use Rattle.json_span.specs.Text.{IsText}
 use Rattle.json_span.specs.Refusals.{IsBadByte, IsCut, IsTooDeep}
 use Rattle.json_span.specs.Ahead.{Frame, in_array, in_object, join_items, join_members, After, Value, FirstItem, FirstName, NextName, Colon, Ahead, ValueAt, AfterAt, Closes, Expect, FirstNameAt, NextNameAt, ColonAt}
 use Rattle.json_span.specs.Reading.{Bytes, ReadsTo}

@@ -9,27 +9,29 @@ use Rattle.std.proofs.lemmas.List.{append-nil, take_at, length-append, drop-drop
 use Rattle.std.proofs.Math.Seq.{set-append_seam, get_or-append_seam}
 use Rattle.std.proofs.Math.ListN.{set}
 use Rattle.std.proofs.lemmas.List.Concat.{flat_map-append}
-use Rattle.json_span.specs.Json.{Json, Items, Members, null, boolean, number, text, array, object, no_items, item, no_members, member, Token, end_array, end_object, comma, quoted, tokens, item_tokens, more_item_tokens, member_tokens, more_member_tokens}
-use Rattle.json_span.specs.Text.{is_blank, spelled, compact, IsText}
-use Rattle.json_span.specs.Chars.{content, content_behind, backslash, IsChars}
+use Rattle.json_span.specs.Json.{Json, Items, Members, null, boolean, number, text, array, object, no_items, item, no_members, member, tokens, item_tokens, more_item_tokens, member_tokens, more_member_tokens}
+use Rattle.json_token.specs.Tokens.{Token, end_array, end_object, comma, quoted, is_blank, spelled, AreTokens}
+use Rattle.json_span.specs.Text.{compact, IsText}
+use Rattle.json_token.specs.Chars.{content, content_behind, backslash, IsChars}
 use Rattle.json_span.specs.Refusals.{Refuses}
 use Rattle.json_span.specs.Ahead.{Frame, in_array, in_object, join_items, join_members, AfterAt, Expect, FirstNameAt, NextNameAt, ColonAt}
 use Rattle.json_span.specs.Reading.{ReadsTo}
-use Rattle.json_span.specs.Tree.{IsRead, StandsIn, ItemsIn, MembersIn, IsNode, AreTokens, items_of, members_of}
-use Rattle.json_span.specs.Steps.{WordTo, WordFails, Adds, At, then_after, begins_number, AtAny, AtValue, AtEnd, AtName, NamedTo, BehindItem, BehindMember, BehindOpen, AddsItem, PushesItem, Skips, QuotedTo, QuotedFails, Holds, HoldsOne, opened, listed, named, quote}
+use Rattle.json_span.specs.Tree.{IsRead, StandsIn, ItemsIn, MembersIn, IsNode, items_of, members_of}
+use Rattle.json_span.specs.Steps.{Adds, At, then_after, AtAny, AtValue, AtEnd, AtName, NamedTo, BehindItem, BehindMember, BehindOpen, AddsItem, PushesItem, Holds, HoldsOne, opened, listed, named, quote}
+use Rattle.json_token.specs.TokenEnds.{WordTo, WordFails, begins_number, Skips, QuotedTo, QuotedFails}
 use Rattle.json_span.specs.declared.tree.Node.{Node}
 use Rattle.json_span.specs.declared.tree.Member.{Member}
 use Rattle.json_span.specs.declared.tree.Form.{Form}
 use Rattle.json_span.specs.declared.state.Open.{Open}
 use Rattle.json_span.specs.declared.state.Open.TheVariants.{InArray, InObject}
-use Rattle.json_span.specs.declared.error.JsonNo.{JsonNo}
-use Rattle.json_span.specs.declared.error.JsonNo.TheVariants.{BadByte, Cut, TooDeep, Want}
+use Rattle.json_token.specs.declared.error.JsonNo.{JsonNo}
+use Rattle.json_token.specs.declared.error.JsonNo.TheVariants.{BadByte, Cut, TooDeep, Want}
 use Rattle.json_span.proofs.AheadLemmas.{FirstName-tokens, tokens-FirstName, NextName-tokens, name-NextName}
 use Rattle.std.specs.Result.{IfOk, IfErr}
 use Rattle.json_span.specs.declared.state.Next.{Next}
 use Rattle.json_span.proofs.BytesLemmas.{class}
 use Rattle.json_span.proofs.States.{expect_values, open_array, open_object, deep_array, deep_object, close_empty_array, next_item, close_array, next_member, close_object, close_empty_object, after_colon, bad_value, bad_close, bad_item, bad_member, bad_end, bad_first_name, bad_next_name, bad_colon, cut_value, cut_item, cut_member, cut_first_name, cut_next_name, cut_colon, item_codes, member_codes, first_name_codes, value_codes, alive_first_name, alive_next_name, ReadsTo-start, whole_value, only_value}
-use Rattle.json_span.proofs.StepsLemmas.{byte_first, no_bytes}
+use Rattle.json_token.proofs.TokenEndLemmas.{byte_first, no_bytes}
 use Rattle.json_span.proofs.Lifts.{skipped, string_read, string_refused, Items-grown, Members-grown, Holds-grown, new_node}
 
 -- ---- what the parts of a tree are made of

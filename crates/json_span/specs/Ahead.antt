@@ -1,7 +1,8 @@
 -- What may follow the tokens that were read: from the open arrays and objects to the tokens that complete the value.
 -- Only private clauses cite it.
 use Rattle.std.specs.Prelude.{◌≡◌, ℕ, suc, ◌+◌, ◌-◌, List, [], ◌∷◌, ◌++◌, length, Bool, true, false, ◌⊎◌}
-use Rattle.json_span.specs.Json.{Json, Items, Members, array, object, no_items, item, no_members, member, Token, end_array, colon, quoted, tokens, item_tokens, more_item_tokens, member_tokens, more_member_tokens, IsWithin, ItemsWithin, MembersWithin}
+use Rattle.json_span.specs.Json.{Json, Items, Members, array, object, no_items, item, no_members, member, tokens, item_tokens, more_item_tokens, member_tokens, more_member_tokens, IsWithin, ItemsWithin, MembersWithin}
+use Rattle.json_token.specs.Tokens.{Token, end_array, colon, quoted}
 
 -- an open array with the items before the one that is read, an open object with the members before and the name
 pub data Frame : Type 0 where

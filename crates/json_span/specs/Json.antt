@@ -1,5 +1,6 @@
 -- A JSON value with the text of its numbers, texts and names (RFC 8259, sections 2 to 5).
 use Rattle.std.specs.Prelude.{◌≡◌, ℕ, suc, List, [], ◌∷◌, ◌++◌, Bool, true, false, ⊤}
+use Rattle.json_token.specs.Tokens.{Token, begin_array, end_array, begin_object, end_object, comma, colon, null_name, true_name, false_name, numeral, quoted}
 
 mutual
   -- a text and a name have the bytes between their quotes, as they are spelled
@@ -18,20 +19,6 @@ mutual
   pub data Members : Type 0 where
     no_members : Members
     member : List ℕ → Json → Members → Members
-
--- the six structural characters, the three literal names, a number, a string
-pub data Token : Type 0 where
-  begin_array : Token
-  end_array : Token
-  begin_object : Token
-  end_object : Token
-  comma : Token
-  colon : Token
-  null_name : Token
-  true_name : Token
-  false_name : Token
-  numeral : List ℕ → Token
-  quoted : List ℕ → Token
 
 -- array = [ value *( , value ) ] and object = { member *( , member ) }, where a member is a name, a colon and a value
 abbrev mutual

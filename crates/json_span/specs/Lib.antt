@@ -1,14 +1,9 @@
 pub mod Json
-pub mod Number
-pub mod Chars
 pub mod Text
 pub mod Refusals
-pub mod Scans
 pub mod Ahead
 pub mod Reading
 pub mod Tree
 pub mod Steps
 pub mod Nodes
 pub mod Parts
-pub mod Integer
-pub mod Grammar

@@ -1,10 +1,11 @@
 -- From what was read of the bytes to what completes them to a JSON text. Only private clauses cite it.
 use Rattle.std.specs.Prelude.{ℕ, ◌+◌, ◌≤◌, List, ◌++◌, length, take, drop, Option, Some, None, ⊤}
-use Rattle.json_span.specs.Json.{Json, Token}
-use Rattle.json_span.specs.Text.{Laid, IsText}
-use Rattle.json_span.specs.Scans.{StopsAt}
+use Rattle.json_span.specs.Json.{Json}
+use Rattle.json_token.specs.Tokens.{Token, Laid}
+use Rattle.json_span.specs.Text.{IsText}
+use Rattle.json_token.specs.Scans.{StopsAt}
 use Rattle.json_span.specs.Ahead.{Ahead}
-use Rattle.json_span.specs.declared.number.Part.{Part}
+use Rattle.json_token.specs.declared.number.Part.{Part}
 
 -- these bytes are the tokens of one of the lists that R completes to the value
 pub record Bytes (R : List Token → Json → Type 0) (bytes : List ℕ) (j : Json) : Type 0 where

@@ -2,8 +2,8 @@
 use Rattle.std.specs.Prelude.{ℕ, ◌+◌, ◌<◌, List, ◌++◌, length, take, ⊤}
 use Rattle.json_span.specs.Json.{Json}
 use Rattle.json_span.specs.Text.{IsText}
-use Rattle.json_span.specs.declared.error.JsonNo.{JsonNo}
-use Rattle.json_span.specs.declared.error.JsonNo.TheVariants.{BadByte, Cut, TooDeep, Want}
+use Rattle.json_token.specs.declared.error.JsonNo.{JsonNo}
+use Rattle.json_token.specs.declared.error.JsonNo.TheVariants.{BadByte, Cut, TooDeep, Want}
 
 -- the greatest depth that is read
 abbrev pub max_levels : ℕ

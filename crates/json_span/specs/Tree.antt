@@ -1,18 +1,14 @@
 -- What a tree's nodes stand for: each node has its source text without white space, and its parts are nodes of the tree.
-use Rattle.std.specs.Prelude.{◌≡◌, ℕ, ◌-◌, ◌<◌, ◌≤◌, List, [], ◌∷◌, length, take, drop, slice_get, Option, Some, None, All, ⊤}
-use Rattle.json_span.specs.Json.{Json, Items, Members, null, boolean, number, text, array, object, no_items, item, no_members, member, Token, tokens}
-use Rattle.json_span.specs.Text.{IsToken, compact, IsText}
+use Rattle.std.specs.Prelude.{◌≡◌, ℕ, ◌-◌, ◌<◌, ◌≤◌, List, [], ◌∷◌, length, take, drop, slice_get, Option, Some, None, All}
+use Rattle.json_span.specs.Json.{Json, Items, Members, null, boolean, number, text, array, object, no_items, item, no_members, member, tokens}
+use Rattle.json_token.specs.Tokens.{AreTokens}
+use Rattle.json_span.specs.Text.{compact, IsText}
 use Rattle.json_span.specs.Refusals.{max_levels}
-use Rattle.json_span.specs.Chars.{content, IsChars}
+use Rattle.json_token.specs.Chars.{content, IsChars}
 use Rattle.json_span.specs.declared.tree.Node.{Node}
 use Rattle.json_span.specs.declared.tree.Form.{Form}
 use Rattle.json_span.specs.declared.tree.Form.TheVariants.{Null, Bool as Flag, Number, Plain, Escaped, Array, Object}
 use Rattle.json_span.specs.declared.tree.Member.{Member}
-
--- each token is of its grammar
-abbrev pub AreTokens : List Token → Type 0
-AreTokens [] = ⊤
-AreTokens (t ∷ ts) = IsToken t × AreTokens ts
 
 -- node k is n, and its source text is that of the value
 pub record IsNode (nodes : List Node) (source : List ℕ) (k : ℕ) (n : Node) (j : Json) : Type 0 where

@@ -4,11 +4,10 @@ ghost use Rattle.json_span.specs.Steps.{At, AtAny, AtValue, BehindItem, AddsItem
 ghost use Rattle.json_span.specs.Refusals.{Refuses};
 ghost use Rattle.json_span.specs.declared.tree.Node.{Node};
 
-use crate::error::JsonNo;
 use crate::source::{close, push_byte, push_open};
-use crate::state::{Next, Open};
-use crate::token::skip_blanks;
+use crate::state::{MAX_LEVELS, Next, Open};
 use crate::tree::{Form, Tree};
+use json_token::{JsonNo, skip_blanks};
 use std::alloc::Global;
 
 /// The bracket that opens an array.
@@ -27,7 +26,7 @@ pub(crate) fn begin_array(
     ensures err { IfErr result (λ e. (nodes : List Node)
         → AtAny bytes.now place nodes source.old.items opens.old.items → Refuses bytes.now e) }
 {
-    if opens.len() >= 127 {
+    if opens.len() >= MAX_LEVELS {
         return Err(JsonNo::TooDeep);
     }
     let start = source.len();

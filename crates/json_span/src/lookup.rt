@@ -1,12 +1,12 @@
 ghost use Rattle.std.specs.Prelude.{◌≡◌, ◌-◌, ◌<◌, ◌≤◌, ℕ, List, All, length, take, drop};
 ghost use Rattle.json_span.specs.Json.{Json, Items, Members, text, array, object, number, IsWithin};
-ghost use Rattle.json_span.specs.Chars.{content};
-ghost use Rattle.json_span.specs.Integer.{integer_of};
+ghost use Rattle.json_token.specs.Chars.{content};
+ghost use Rattle.json_token.specs.Integer.{integer_of};
 ghost use Rattle.json_span.specs.Text.{compact, IsText};
 ghost use Rattle.json_span.specs.Nodes.{Stands, StandForItems, StandForMembers, HasNode, root_of, kind_of, IsOfKind};
 
-use crate::integer::integer;
 use crate::tree::{Form, Kind, Member, Tree};
+use json_token::integer_of;
 
 fn part(source: &Vec<u8>, start: usize, end: usize) -> &[u8]
     requires order { start ≤ end }
@@ -41,7 +41,7 @@ impl Tree {
         }
     }
 
-    /// The members of an object in the order of the text, repeats included.
+    /// The members of a node that is an object, in the order of the text, repeats included. No memory is taken.
     pub fn members(&self, node: u32) -> &[Member]
         requires { (ms : Members) × Stands self.now node (object ms) }
         ensures value { (ms : Members) → Stands self.now node (object ms) → StandForMembers self.now result.now ms }
@@ -53,7 +53,7 @@ impl Tree {
         }
     }
 
-    /// The nodes of an array's items in the order of the text.
+    /// The nodes of the items of a node that is an array, in the order of the text. No memory is taken.
     pub fn items(&self, node: u32) -> &[u32]
         requires { (js : Items) × Stands self.now node (array js) }
         ensures value { (js : Items) → Stands self.now node (array js) → StandForItems self.now result.now js }
@@ -65,7 +65,7 @@ impl Tree {
         }
     }
 
-    /// The node's source text without white space between tokens.
+    /// The node's source text without white space between tokens: numbers, texts and names as they were spelled.
     pub fn text_of(&self, node: u32) -> &str
         requires { HasNode self.now node }
         ensures value { (j : Json) → Stands self.now node j → result.now ≡ compact j }
@@ -78,7 +78,7 @@ impl Tree {
         unsafe { std::str::from_utf8_unchecked(bytes) }
     }
 
-    /// A text without its quotes and escapes.
+    /// The characters of a node that is a text: without its quotes, each escape as its character (RFC 8259, section 7).
     pub fn string_of(&self, node: u32) -> &str
         requires { (s : List ℕ) × Stands self.now node (text s) }
         ensures { (s : List ℕ) → Stands self.now node (text s) → result.now ≡ content s }
@@ -93,12 +93,12 @@ impl Tree {
         }
     }
 
-    /// The number as an integer, where it has no fraction, no exponent and at most 38 digits.
+    /// The integer that a node that is a number spells; `None` where it has a fraction, an exponent, or more than 38 digits. `-0` is 0.
     pub fn int_of(&self, node: u32) -> Option<i128>
         requires { (s : List ℕ) × Stands self.now node (number s) }
         ensures { (s : List ℕ) → Stands self.now node (number s) → result ≡ integer_of s }
     {
         let found = &self.nodes[node as usize];
-        integer(part(&self.source, found.start, found.end))
+        integer_of(part(&self.source, found.start, found.end))
     }
 }

@@ -1,18 +1,16 @@
 ghost use Rattle.std.specs.Prelude.{◌≡◌, ◌<◌, List, length};
 ghost use Rattle.std.specs.Prelude.{get_or, IfOk, IfErr, false};
 ghost use Rattle.json_span.specs.Steps.{At, AtAny, AtName, NamedTo, BehindMember};
-ghost use Rattle.json_span.specs.Chars.{content, IsChars, has_backslash};
+ghost use Rattle.json_token.specs.Chars.{content, IsChars, has_backslash};
 ghost use Rattle.json_span.specs.Ahead.{Frame};
 ghost use Rattle.json_span.specs.Json.{Members};
 ghost use Rattle.json_span.specs.Refusals.{Refuses};
 
-use crate::error::JsonNo;
-use crate::escape::unescape;
 use crate::source::{close, push_byte, push_bytes, push_open};
-use crate::state::{Next, Open};
-use crate::token::{skip_blanks, string_end};
+use crate::state::{MAX_LEVELS, Next, Open};
 use crate::tree::{Form, Member, Tree};
 use gate_io::Text;
+use json_token::{JsonNo, skip_blanks, string_end, unescape};
 use std::alloc::Global;
 
 /// The name of a member.
@@ -85,7 +83,7 @@ pub(crate) fn begin_object(
     ensures further { IfOk result (λ r. place < r.1) }
     ensures err { IfErr result (Refuses bytes.now) }
 {
-    if opens.len() >= 127 {
+    if opens.len() >= MAX_LEVELS {
         return Err(JsonNo::TooDeep);
     }
     let start = tree.source.len();

@@ -6,7 +6,7 @@ ghost use Rattle.json_span.specs.Parts.{last_member, IsMember, IsTextOf, AreItem
 use crate::tree::{Kind, Tree};
 
 impl Tree {
-    /// The text of a node that is one, without quotes and escapes.
+    /// The characters of a node that is a text, as `string_of` has them; `None` at a node of another kind.
     pub fn as_text(&self, node: u32) -> Option<&str>
         requires { HasNode self.now node }
         ensures { (j : Json) → Stands self.now node j → IsTextOf j result }
@@ -17,7 +17,7 @@ impl Tree {
         }
     }
 
-    /// The nodes of the items of a node that is an array.
+    /// The nodes of the items of a node that is an array, in the order of the text; `None` at a node of another kind.
     pub fn as_items(&self, node: u32) -> Option<&[u32]>
         requires { HasNode self.now node }
         ensures value { (j : Json) → Stands self.now node j → AreItemsOf self.now j result }
@@ -29,7 +29,8 @@ impl Tree {
         }
     }
 
-    /// The node of an object's last member of this name.
+    /// The value's node of an object's last member of this name, names compared without escapes; `None` where no member has it. It
+    /// looks at each member.
     pub fn member(&self, node: u32, name: &str) -> Option<u32>
         requires { (ms : Members) × Stands self.now node (object ms) }
         ensures value { (ms : Members) → Stands self.now node (object ms)

@@ -1,18 +1,19 @@
 ghost use Rattle.std.specs.Prelude.{◌≡◌, ◌<◌, ◌≤◌, ℕ, length};
 ghost use Rattle.std.specs.Prelude.{get_or, IfOk, IfErr, OnOk, false};
-ghost use Rattle.json_span.specs.Steps.{At, AtAny, AtValue, BehindOpen, Skips, then_after};
-ghost use Rattle.json_span.specs.Text.{is_blank, IsText};
+ghost use Rattle.json_span.specs.Steps.{At, AtAny, AtValue, BehindOpen, then_after};
+ghost use Rattle.json_token.specs.TokenEnds.{Skips};
+ghost use Rattle.json_span.specs.Text.{IsText};
+ghost use Rattle.json_token.specs.Tokens.{is_blank};
 ghost use Rattle.json_span.specs.Json.{Json};
 ghost use Rattle.json_span.specs.Refusals.{Refuses, max_levels};
 ghost use Rattle.json_span.specs.Nodes.{IsTreeOf};
 
 use crate::array::{after_item, begin_array, empty_array, next_item};
-use crate::error::JsonNo;
 use crate::object::{after_member, begin_object};
 use crate::scalar::{number_value, text_value, word_value};
 use crate::state::{Next, Open};
-use crate::token::{begins_number, skip_blanks};
 use crate::tree::{Form, Member, Tree};
+use json_token::{JsonNo, begins_number, skip_blanks};
 use std::alloc::Global;
 
 /// What a byte begins where a value is to come.
@@ -185,7 +186,8 @@ fn read_text(alloc: Global, bytes: &[u8]) -> Result<Tree, JsonNo>
     }
 }
 
-/// Reads the bytes as one JSON text, with arrays and objects nested at most 127 levels deep (RFC 8259).
+/// Reads the bytes as one JSON text (RFC 8259, section 2), with arrays and objects nested at most 127 levels deep and white space
+/// alone behind it.
 pub fn read(alloc: Global, bytes: &[u8]) -> Result<Tree, JsonNo>
     // The tree is that of the text, and the text has no other value.
     ensures ok { IfOk result (IsTreeOf bytes.now) }

@@ -1,16 +1,15 @@
 ghost use Rattle.std.specs.Prelude.{◌≡◌, ◌<◌, ◌≤◌, List, length};
 ghost use Rattle.std.specs.Prelude.{get_or, IfOk, IfErr, true, false};
-ghost use Rattle.json_span.specs.Steps.{AtAny, AtEnd, Adds, begins_number, WordTo, WordFails};
-ghost use Rattle.json_span.specs.Chars.{IsChars, has_backslash};
+ghost use Rattle.json_span.specs.Steps.{AtAny, AtEnd, Adds};
+ghost use Rattle.json_token.specs.TokenEnds.{begins_number, WordTo, WordFails};
+ghost use Rattle.json_token.specs.Chars.{IsChars, has_backslash};
 ghost use Rattle.json_span.specs.Tree.{HasContent};
 ghost use Rattle.json_span.specs.Refusals.{Refuses};
 ghost use Rattle.json_span.specs.declared.state.Open.{Open};
 
-use crate::error::JsonNo;
-use crate::escape::unescape;
 use crate::source::add_token;
-use crate::token::{numeral_end, string_end, word_end};
 use crate::tree::{Form, Tree};
+use json_token::{JsonNo, numeral_end, string_end, unescape, word_end};
 use std::alloc::Global;
 
 /// A literal name as a value.

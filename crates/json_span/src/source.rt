@@ -2,9 +2,9 @@ ghost use Rattle.std.specs.Prelude.{◌≡◌, ◌+◌, ◌++◌, [], ◌∷◌,
 ghost use Rattle.std.specs.Prelude.{IfOk, IfErr, OnOk};
 ghost use Rattle.json_span.specs.Steps.{Adds};
 
-use crate::error::JsonNo;
 use crate::state::Open;
 use crate::tree::{Form, Tree};
+use json_token::JsonNo;
 
 /// Puts a byte behind the source text.
 pub(crate) fn push_byte(source: &mut Vec<u8>, byte: u8) -> Result<(), JsonNo>

@@ -1,23 +1,30 @@
 ghost use Rattle.std.specs.Prelude.{◌≡◌, ◌+◌, ◌≤◌, ◌++◌, [], ◌∷◌, length, IfOk, IfErr};
 
-use crate::error::JsonNo;
 use gate_io::Text;
+use json_token::JsonNo;
 
-/// What a node is.
+/// What a node is: the values of RFC 8259, section 3.
 #[derive(Clone, Copy, Debug, PartialEq, Eq)]
 pub enum Kind {
     Null,
+    /// `true` or `false`.
     Bool(bool),
+    /// A number of any size; `Tree::text_of` has its digits, `Tree::int_of` its value as an integer.
     Number,
+    /// A string; `Tree::string_of` has its characters.
     Text,
+    /// `Tree::items` has its items.
     Array,
+    /// `Tree::members` has its members, `Tree::member` the last one of a name.
     Object,
 }
 
 /// A member of an object: its name without escapes, and the node of its value.
 #[derive(Debug, Drop)]
 pub struct Member {
+    /// The name, unescaped.
     pub name: Text,
+    /// The node of the value, made before that of the object.
     pub node: u32,
 }
 
@@ -41,7 +48,8 @@ pub(crate) struct Node {
     pub(crate) form: Form,
 }
 
-/// A JSON value as a flat list of nodes, each behind its parts; the last is the root.
+/// A JSON value as a flat list of nodes, each behind its parts; the last is the root. Nodes are numbered from 0, and a number means a
+/// node of the tree that gave it alone.
 #[derive(Debug, Drop)]
 pub struct Tree {
     pub(crate) nodes: Vec<Node>,

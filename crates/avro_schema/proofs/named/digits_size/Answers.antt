@@ -1,5 +1,5 @@
 use Rattle.std.proofs.Common.{◌<◌, arith}
-use Rattle.json_span.specs.Integer.{decimal}
+use Rattle.json_token.specs.Integer.{decimal}
 use Rattle.avro_schema.proofs.ListLemmas.{digits_grow, too_big}
 use Rattle.avro_schema.proofs.named.digits_size.Goals as goal
 

@@ -1,6 +1,6 @@
 use Rattle.std.proofs.Common.{◌≡◌, ◌≤◌, ◌+◌, ◌*◌, ◌-◌, drop}
 use Rattle.std.specs.Prelude.{fold}
-use Rattle.json_span.specs.Integer.{decimal}
+use Rattle.json_token.specs.Integer.{decimal}
 use Rattle.avro_schema.specs.Reading.{are_digits}
 use Rattle.avro_schema.proofs.named.digits_size.Given as goal
 

@@ -2,8 +2,8 @@ use Rattle.std.proofs.Common.{arith, ap, Some}
 use Rattle.json_span.proofs.Turns as turns
 use Rattle.json_span.proofs.object.begin_object.Goals as goal
 
-pub returns-then-len-ge127-clause-err : goal.returns-then-len-ge127-clause-err
-returns-then-len-ge127-clause-err c = turns.object_too_deep _ _ _ _ _ c.requires.at c.requires.inside c.requires.brace (omega arith)
+pub returns-then-len-ge-MAX_LEVELS-clause-err : goal.returns-then-len-ge-MAX_LEVELS-clause-err
+returns-then-len-ge-MAX_LEVELS-clause-err c = turns.object_too_deep _ _ _ _ _ c.requires.at c.requires.inside c.requires.brace (omega arith)
 
 pub returns-then-at-bytes-clause-err : goal.returns-then-at-bytes-clause-err
 returns-then-at-bytes-clause-err c = turns.object_cut _ _ _ _ _ _ c.requires.at c.requires.inside c.requires.brace (omega arith) c.skip_blanks-at.ensures c.if-at-bytes.true

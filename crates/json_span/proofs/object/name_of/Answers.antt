@@ -1,6 +1,6 @@
 use Rattle.std.proofs.Common.{sym, ◌∙◌}
 use Rattle.json_span.proofs.Turns as turns
-use Rattle.json_span.proofs.Utf8Lemmas.{chars_utf8}
+use Rattle.json_token.proofs.Utf8Lemmas.{chars_utf8}
 use Rattle.json_span.proofs.object.name_of.Goals as goal
 
 pub from_utf8_unchecked-name-requires : goal.from_utf8_unchecked-name-requires

@@ -5,7 +5,7 @@ use Rattle.std.proofs.lemmas.List.{nil_from_length}
 use Rattle.json_span.specs.Steps.{At}
 use Rattle.json_span.specs.Refusals.{Refuses}
 use Rattle.json_span.specs.declared.state.Next.{Next}
-use Rattle.json_span.specs.declared.error.JsonNo.{JsonNo}
+use Rattle.json_token.specs.declared.error.JsonNo.{JsonNo}
 use Rattle.json_span.proofs.reader.read_text.Goals as goal
 
 pub loop-next-init : goal.loop-next-init

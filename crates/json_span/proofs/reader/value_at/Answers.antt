@@ -1,7 +1,7 @@
 use Rattle.std.proofs.Common.{sym, ◌∙◌}
 use Rattle.json_span.proofs.Turns as turns
 use Rattle.json_span.proofs.Lifts as lifts
-use Rattle.json_span.proofs.StepsLemmas as steps
+use Rattle.json_token.proofs.TokenEndLemmas as steps
 use Rattle.json_span.proofs.reader.value_at.Goals as goal
 
 pub returns-then-byte-eq34-clause-err : goal.returns-then-byte-eq34-clause-err

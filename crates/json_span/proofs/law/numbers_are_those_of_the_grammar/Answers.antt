@@ -1,5 +1,0 @@
-use Rattle.json_span.proofs.NumberGrammar.{number_numeral, numeral_number}
-use Rattle.json_span.proofs.law.numbers_are_those_of_the_grammar.Goals as goal
-
-pub returns : goal.returns
-returns c = λ s. (number_numeral s, numeral_number s)
