@@ -5,7 +5,7 @@ use Rattle.std.specs.Str.{bytes_eq, is_utf8}
 use Rattle.std.proofs.lemmas.Slice.Eq.{bytes_eq-Decides}
 use Rattle.avro_schema.specs.Types as schema
 use Rattle.avro_schema.specs.Types.{AvroType, Branches, Fields, branch_name}
-use Rattle.avro_schema.specs.Reading.{is_among}
+use Rattle.avro_names.specs.NameList.{is_among}
 use Rattle.avro_schema.specs.Distinct.{AreDistinct, HasNames, BranchesHaveNames, branch_names}
 use Rattle.json_span.specs.Json as json
 use Rattle.json_span.specs.Json.{Json, Members}

@@ -18,7 +18,7 @@ use Rattle.json_span.specs.Text.{IsText}
 use Rattle.json_token.specs.Tokens.{AreTokens}
 use Rattle.avro_schema.specs.Types as schema
 use Rattle.avro_schema.specs.Types.{AvroType, Fields, resolved, branch_name}
-use Rattle.avro_schema.specs.Reading.{is_among}
+use Rattle.avro_names.specs.NameList.{is_among}
 use Rattle.avro_schema.specs.Distinct.{HasNames, FieldsHaveNames, AreDistinct, branch_names, field_names}
 use Rattle.avro_schema.proofs.DistinctNames.{resolved_has_names}
 use Rattle.avro_datum.specs.Value.{Value, Values, Entries, null, boolean, int, long, bytes, string, fixed, symbol, branch, fields, items, entries, no_values, value, no_entries, entry, size_of, max_levels, IsTyped, AreTyped, EntriesTyped}

@@ -6,7 +6,7 @@ use Rattle.std.specs.List.{AllByRecursion}
 use Rattle.avro_schema.specs.Types as schema
 use Rattle.avro_schema.specs.Types.{AvroType, Branches, Fields, resolved}
 pub use Rattle.avro_schema.specs.Distinct.{branch_names}
-pub use Rattle.avro_schema.specs.NameList.{place_of}
+pub use Rattle.avro_names.specs.NameList.{place_of}
 use Rattle.json_span.specs.Json as json
 use Rattle.json_span.specs.Json.{Json, Items, Members}
 use Rattle.json_token.specs.Chars.{content}

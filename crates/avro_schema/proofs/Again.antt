@@ -5,12 +5,15 @@ use Rattle.std.specs.Str.{bytes_eq}
 use Rattle.json_span.specs.Json.{Json, Items, Members, text, number, array as list, object, no_items, item, no_members, member}
 use Rattle.json_token.specs.Chars.{content, content_behind}
 use Rattle.avro_schema.specs.Types.{AvroType, Branches, Fields, null, boolean, int, long, bytes, string, array, map, union, fixed, enum_, record_, named, no_branches, branch, no_fields, field, branch_name}
-use Rattle.avro_schema.specs.Names.{is_part, is_float, is_definable, namespace_of}
-use Rattle.avro_schema.specs.Reading.{Read, Outcome, Reader, FieldType, next, reads, is_among, known, type_by_name, new_name, defined_name, part_name, symbols_read, digits_size, field_read, fields_read, branch_read, branches_read, object_by_word, reader}
-use Rattle.avro_schema.specs.declared.error.SchemaNo.TheVariants.{BadType, UnknownName, Redefined, BadName, Float}
+use Rattle.avro_names.specs.Names.{is_part, is_float, is_definable, namespace_of}
+use Rattle.avro_schema.specs.Reading.{Read, Outcome, Reader, FieldType, reads, known, type_by_name, digits_size, field_read, fields_read, branch_read, branches_read, object_by_word, reader}
+use Rattle.avro_names.specs.Outcomes.{next}
+use Rattle.avro_names.specs.NameList.{is_among}
+use Rattle.avro_names.specs.MemberNames.{new_name, defined_name, part_name, symbols_read}
+use Rattle.avro_names.specs.declared.error.SchemaNo.TheVariants.{BadType, UnknownName, Redefined, BadName, Float}
 use Rattle.avro_schema.proofs.Numerals.{size_again}
-use Rattle.avro_schema.proofs.Outcomes.{next_ok}
-use Rattle.avro_schema.proofs.NameLemmas.{or_false_first, or_false_second}
+use Rattle.avro_names.proofs.Outcomes.{next_ok}
+use Rattle.avro_names.proofs.NameLemmas.{or_false_first, or_false_second}
 use Rattle.avro_schema.proofs.PlainNames.{plain_content, part_plain, definable_plain, not_primitive}
 
 abbrev pub named_text : List ℕ → Members → Members

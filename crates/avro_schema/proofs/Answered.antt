@@ -8,12 +8,14 @@ use Rattle.json_span.specs.Refusals.{max_levels}
 use Rattle.avro_schema.specs.Types.{AvroType}
 use Rattle.avro_schema.specs.Canonical.{canonical_form}
 use Rattle.avro_schema.specs.Nodes.{SchemaValue, tree_of}
-use Rattle.avro_schema.specs.Reading.{Read, reader, next, short_enough, schema_of, ReadsAs}
+use Rattle.avro_schema.specs.Reading.{Read, reader, short_enough, schema_of, ReadsAs}
+use Rattle.avro_names.specs.Outcomes.{next}
 use Rattle.avro_schema.specs.Refusals.{Answers, Refuses, IsRefused}
-use Rattle.avro_schema.specs.Building.{names_of, Makes, Why, Ends}
+use Rattle.avro_schema.specs.Building.{names_of, Makes, Ends}
+use Rattle.avro_names.specs.Outcomes.{Why}
 use Rattle.avro_schema.specs.declared.parts.Parts.{Parts}
-use Rattle.avro_schema.specs.declared.error.SchemaNo.{SchemaNo}
-use Rattle.avro_schema.specs.declared.error.SchemaNo.TheVariants.{NotJson, BadType, UnknownName, Redefined, BadName, Float, TooDeep, TooLong, Want}
+use Rattle.avro_names.specs.declared.error.SchemaNo.{SchemaNo}
+use Rattle.avro_names.specs.declared.error.SchemaNo.TheVariants.{NotJson, BadType, UnknownName, Redefined, BadName, Float, TooDeep, TooLong, Want}
 use Rattle.avro_schema.proofs.Proper.{schema_proper}
 
 pub answers_along : (u v : Result AvroType SchemaNo) (r : Result SchemaValue SchemaNo) → u ≡ v → Answers v r → Answers u r

@@ -9,15 +9,18 @@ use Rattle.json_span.specs.Nodes.{StandForItems}
 use Rattle.json_span.specs.declared.tree.Tree.{Tree}
 use Rattle.avro_schema.specs.Types.{AvroType, Branches, Defined, null, no_branches, branch, branch_name, definitions, branch_definitions}
 use Rattle.avro_schema.specs.Forms.{type_at, branches_at, types_of}
-use Rattle.avro_schema.specs.Reading.{Read, Outcome, Reader, next, is_among, branch_read, branches_read}
-use Rattle.avro_schema.specs.Building.{names_of, IsBuilt, Grows, Makes, Why, MakesBranch, BranchesSoFar, behind_branches, in_front, names_of_branches}
+use Rattle.avro_schema.specs.Reading.{Read, Outcome, Reader, branch_read, branches_read}
+use Rattle.avro_names.specs.Outcomes.{next}
+use Rattle.avro_names.specs.NameList.{is_among}
+use Rattle.avro_schema.specs.Building.{names_of, IsBuilt, Grows, Makes, MakesBranch, BranchesSoFar, behind_branches, in_front, names_of_branches}
+use Rattle.avro_names.specs.Outcomes.{Why}
 use Rattle.avro_schema.specs.declared.parts.Parts.{Parts}
-use Rattle.avro_schema.specs.declared.error.SchemaNo.{SchemaNo}
-use Rattle.avro_schema.specs.declared.error.SchemaNo.TheVariants.{BadType}
+use Rattle.avro_names.specs.declared.error.SchemaNo.{SchemaNo}
+use Rattle.avro_names.specs.declared.error.SchemaNo.TheVariants.{BadType}
 use Rattle.avro_schema.proofs.Grown.{branches_same, length-types_of}
 use Rattle.avro_schema.proofs.Growth.{grows_refl, grows_trans, grows_along}
-use Rattle.avro_schema.proofs.ListLemmas.{NextItem, no_item}
-use Rattle.avro_schema.proofs.Outcomes.{next_ok}
+use Rattle.avro_names.proofs.ListLemmas.{NextItem, no_item}
+use Rattle.avro_names.proofs.Outcomes.{next_ok}
 use Rattle.avro_schema.proofs.FieldLoops.{agree_later, more_nodes}
 
 in_front_nothing : (o : Outcome Branches) → o ≡ in_front (behind_branches no_branches) o

@@ -4,14 +4,17 @@ use Rattle.std.specs.List.{slice_get}
 use Rattle.avro_schema.specs.Types.{AvroType, Defined, definitions}
 use Rattle.avro_schema.specs.Forms.{type_of, types_of, AreBefore, EachBefore}
 use Rattle.avro_schema.specs.Reading.{Outcome}
-use Rattle.avro_schema.specs.Building.{names_in, names_of, FirstNamed, IsBuilt, DefinesIn, Grows, Tells, Finishes, NamesNew, defined_at}
+use Rattle.avro_names.specs.Definitions.{names_in, FirstNamed, defined_at}
+use Rattle.avro_schema.specs.Building.{names_of, IsBuilt, DefinesIn, Grows, Tells, Finishes, NamesNew}
 use Rattle.avro_schema.specs.declared.parts.Form.{Form}
 use Rattle.avro_schema.specs.declared.parts.Form.TheVariants.{Named}
-use Rattle.avro_schema.specs.declared.definitions.Definition.{Definition}
+use Rattle.avro_names.specs.declared.definitions.Definition.{Definition}
 use Rattle.avro_schema.specs.declared.parts.Parts.{Parts}
-use Rattle.avro_schema.specs.declared.error.SchemaNo.{SchemaNo}
-use Rattle.avro_schema.specs.declared.error.SchemaNo.TheVariants.{Want}
-use Rattle.avro_schema.proofs.Growth.{names_in-append, names_in-defined_at, first_stays, first_defined_at, defined_at-behind, defines_stay, built_push, push_stands}
+use Rattle.avro_names.specs.declared.error.SchemaNo.{SchemaNo}
+use Rattle.avro_names.specs.declared.error.SchemaNo.TheVariants.{Want}
+use Rattle.avro_names.proofs.DefinitionLemmas.{names_in-append, names_in-defined_at}
+use Rattle.avro_schema.proofs.Growth.{defines_stay, built_push, push_stands}
+use Rattle.avro_names.proofs.DefinitionLemmas.{first_stays, first_defined_at, defined_at-behind}
 
 pub named_built : (o : Result (List ℕ) SchemaNo) (p q : Parts) (name : List ℕ) (d : ℕ) → IsBuilt p → NamesNew o p q name d → IsBuilt q
 named_built o p q name d b n =

@@ -1,44 +1,23 @@
--- From an object's members to the fullname that it defines.
+-- From a fullname and its symbols or size to an enum or a fixed.
 use Rattle.std.proofs.Common.{◌≡◌, ℕ, List, [], ◌∷◌, ◌++◌, Bool, true, false, cond, Ok, Err, inl, sym, ap, ◌∙◌}
 use Rattle.std.specs.Prelude.{codes}
 use Rattle.json_span.specs.Json.{Members}
-use Rattle.avro_schema.specs.Names.{are_parts, is_definable}
-use Rattle.avro_schema.specs.Reading.{given_name, new_name, defined_name, next, reads, is_among, symbols_of, size_of, enum_read, fixed_read}
+use Rattle.avro_names.specs.Names.{are_parts, is_definable}
+use Rattle.avro_names.specs.MemberNames.{given_name, new_name, defined_name, symbols_of}
+use Rattle.avro_names.specs.Outcomes.{next}
+use Rattle.avro_schema.specs.Reading.{reads, size_of, enum_read, fixed_read}
+use Rattle.avro_names.specs.NameList.{is_among}
 use Rattle.json_span.specs.Parts.{last_member}
 use Rattle.avro_schema.specs.Types.{enum_, fixed}
-use Rattle.avro_schema.specs.Building.{Why, names_of, FirstNamed}
+use Rattle.avro_names.specs.Outcomes.{Why}
+use Rattle.avro_schema.specs.Building.{names_of}
+use Rattle.avro_names.specs.Definitions.{FirstNamed}
 use Rattle.avro_schema.specs.declared.parts.Parts.{Parts}
-use Rattle.avro_schema.specs.declared.error.SchemaNo.{SchemaNo}
-use Rattle.avro_schema.specs.declared.error.SchemaNo.TheVariants.{Redefined, BadName}
-use Rattle.avro_schema.proofs.Outcomes.{next_ok, why_first, why_next}
-use Rattle.avro_schema.proofs.Growth.{first_among}
-use Rattle.avro_schema.proofs.NameLemmas.{and_first}
-
-pub definable_parts : (name : List ℕ) → is_definable name ≡ true → are_parts name ≡ true
-unfolding is_definable
-definable_parts name h = and_first _ _ h
-
-module _ (canonical : Bool) (p : Parts) (enclosing : List ℕ) (ms : Members) where
-  pub name_refused : (e : SchemaNo) → Why (given_name canonical enclosing (last_member (codes "name") ms) (last_member (codes "namespace") ms)) e → Why (defined_name canonical (names_of p) enclosing ms) e
-  unfolding defined_name
-  name_refused e w = why_first _ (new_name (names_of p)) e w
-
-  pub redefined : (name : List ℕ) (d : ℕ) → given_name canonical enclosing (last_member (codes "name") ms) (last_member (codes "namespace") ms) ≡ Ok name → FirstNamed p.definitions name d
-      → Why (defined_name canonical (names_of p) enclosing ms) Redefined
-  unfolding defined_name
-  redefined name d is first = why_next _ name (new_name (names_of p)) Redefined is (inl (ap (λ t. cond t (Err Redefined) (cond (is_definable name) (Ok name) (Err BadName))) (first_among p.definitions name d first)))
-
-  pub bad_name : (name : List ℕ) → given_name canonical enclosing (last_member (codes "name") ms) (last_member (codes "namespace") ms) ≡ Ok name → is_among name (names_of p) ≡ false → is_definable name ≡ false
-      → Why (defined_name canonical (names_of p) enclosing ms) BadName
-  unfolding defined_name
-  bad_name name is new bad = why_next _ name (new_name (names_of p)) BadName is (inl (ap (λ t. cond t (Err Redefined) (cond (is_definable name) (Ok name) (Err BadName))) new ∙ ap (λ t. cond t (Ok name) (Err BadName)) bad))
-
-  pub name_defined : (name : List ℕ) → given_name canonical enclosing (last_member (codes "name") ms) (last_member (codes "namespace") ms) ≡ Ok name → is_among name (names_of p) ≡ false → is_definable name ≡ true
-      → defined_name canonical (names_of p) enclosing ms ≡ Ok name
-  unfolding defined_name
-  name_defined name is new good = next_ok _ name (new_name (names_of p)) is ∙ ap (λ t. cond t (Err Redefined) (cond (is_definable name) (Ok name) (Err BadName))) new ∙ ap (λ t. cond t (Ok name) (Err BadName)) good
-
--- ---- enum and fixed
+use Rattle.avro_names.specs.declared.error.SchemaNo.{SchemaNo}
+use Rattle.avro_names.specs.declared.error.SchemaNo.TheVariants.{Redefined, BadName}
+use Rattle.avro_names.proofs.Outcomes.{next_ok, why_first, why_next}
+use Rattle.avro_names.proofs.DefinitionLemmas.{first_among}
+use Rattle.avro_names.proofs.NameLemmas.{and_first}
 
 pub enum_is : (canonical : Bool) (p : Parts) (enclosing : List ℕ) (ms : Members) (name : List ℕ) (symbols names : List (List ℕ)) → defined_name canonical (names_of p) enclosing ms ≡ Ok name → symbols_of (last_member (codes "symbols") ms) ≡ Ok symbols
     → names ≡ names_of p ++ (name ∷ []) → enum_read canonical (names_of p) enclosing ms ≡ Ok (record { value = enum_ name symbols; names = names })

@@ -9,16 +9,18 @@ use Rattle.json_span.specs.Nodes.{Stands, StandForItems}
 use Rattle.json_span.specs.declared.tree.Tree.{Tree}
 use Rattle.avro_schema.specs.Types.{AvroType, Fields, Defined, null, no_fields, field, definitions, field_definitions}
 use Rattle.avro_schema.specs.Forms.{type_at, fields_at, types_of}
-use Rattle.avro_schema.specs.Reading.{Read, Outcome, Reader, FieldType, next, field_read, fields_read, fields_of}
-use Rattle.avro_schema.specs.Building.{names_of, IsBuilt, Grows, Why, MakesField, MakesFields, FieldsSoFar, behind_fields, in_front, names_of_fields}
+use Rattle.avro_schema.specs.Reading.{Read, Outcome, Reader, FieldType, field_read, fields_read, fields_of}
+use Rattle.avro_names.specs.Outcomes.{next}
+use Rattle.avro_schema.specs.Building.{names_of, IsBuilt, Grows, MakesField, MakesFields, FieldsSoFar, behind_fields, in_front, names_of_fields}
+use Rattle.avro_names.specs.Outcomes.{Why}
 use Rattle.json_span.specs.Parts.{IsMember}
 use Rattle.avro_schema.specs.declared.parts.Form.{Form}
 use Rattle.avro_schema.specs.declared.parts.Field.{Field}
 use Rattle.avro_schema.specs.declared.parts.Parts.{Parts}
-use Rattle.avro_schema.specs.declared.error.SchemaNo.{SchemaNo}
+use Rattle.avro_names.specs.declared.error.SchemaNo.{SchemaNo}
 use Rattle.avro_schema.proofs.Grown.{Agree, fields_same, types_stay, length-types_of}
 use Rattle.avro_schema.proofs.Growth.{grows_refl, grows_trans, grows_along}
-use Rattle.avro_schema.proofs.ListLemmas.{NextItem, no_item}
+use Rattle.avro_names.proofs.ListLemmas.{NextItem, no_item}
 
 in_front_nothing : (o : Outcome Fields) → o ≡ in_front (behind_fields no_fields) o
 in_front_nothing (Ok r) = refl

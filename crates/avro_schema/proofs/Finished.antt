@@ -8,10 +8,11 @@ use Rattle.avro_schema.specs.Types.{AvroType, Branches, Fields, Defined, null, b
 use Rattle.avro_schema.specs.Forms.{type_at, type_of, types_of, is_plain, EachBefore, Leads, IsSchema}
 use Rattle.avro_schema.specs.Reading.{Outcome, ReadsAs}
 use Rattle.avro_schema.specs.Canonical.{canonical_form}
-use Rattle.avro_schema.specs.Building.{FirstNamed, IsBuilt, DefinesIn, Makes, Finished}
+use Rattle.avro_names.specs.Definitions.{FirstNamed}
+use Rattle.avro_schema.specs.Building.{IsBuilt, DefinesIn, Makes, Finished}
 use Rattle.avro_schema.specs.declared.parts.Form.{Form}
 use Rattle.avro_schema.specs.declared.parts.Form.TheVariants.{Null, Boolean, Int, Long, Bytes, Text, Array, Map, Union, Fixed, Enum, Record, Named}
-use Rattle.avro_schema.specs.declared.definitions.Definition.{Definition}
+use Rattle.avro_names.specs.declared.definitions.Definition.{Definition}
 use Rattle.avro_schema.specs.declared.parts.Parts.{Parts}
 use Rattle.avro_schema.proofs.Grown.{type_is, length-types_of}
 

@@ -10,7 +10,7 @@ use Rattle.avro_schema.specs.Picks.{kind_in, branches_in, symbols_in, fields_in,
 use Rattle.avro_schema.specs.declared.parts.Form.{Form}
 use Rattle.avro_schema.specs.declared.parts.Form.TheVariants.{Null, Boolean, Int, Long, Bytes, Text, Array, Map, Union, Fixed, Enum, Record, Named}
 use Rattle.avro_schema.specs.declared.parts.Field.{Field}
-use Rattle.avro_schema.specs.declared.definitions.Definition.{Definition}
+use Rattle.avro_names.specs.declared.definitions.Definition.{Definition}
 use Rattle.avro_schema.proofs.Grown.{type_is, length-types_of}
 
 -- ---- the form that a node resolves to

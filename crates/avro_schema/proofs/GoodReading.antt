@@ -6,11 +6,14 @@ use Rattle.json_span.specs.Json.{Json, Items, Members, null, boolean, number, te
 use Rattle.json_token.specs.Chars.{content}
 use Rattle.avro_schema.specs.Types as types
 use Rattle.avro_schema.specs.Types.{AvroType, Branches, Fields, no_branches, branch, no_fields, field, branch_name}
-use Rattle.avro_schema.specs.Names.{is_part, is_float, is_definable, namespace_of}
-use Rattle.avro_schema.specs.Reading.{Read, Outcome, Reader, FieldType, next, reads, is_among, known, full_name, type_by_name, given_name, new_name, defined_name, part_name, symbols_read, symbols_of, size_of, part_type, field_read, fields_read, fields_of, branch_read, branches_read, union_read, array_read, map_read, record_read, enum_read, fixed_read, object_by_word, object_read, one_level, no_level, reader}
+use Rattle.avro_names.specs.Names.{is_part, is_float, is_definable, namespace_of}
+use Rattle.avro_schema.specs.Reading.{Read, Outcome, Reader, FieldType, reads, known, type_by_name, size_of, part_type, field_read, fields_read, fields_of, branch_read, branches_read, union_read, array_read, map_read, record_read, enum_read, fixed_read, object_by_word, object_read, one_level, no_level, reader}
+use Rattle.avro_names.specs.Outcomes.{next}
+use Rattle.avro_names.specs.NameList.{is_among}
+use Rattle.avro_names.specs.MemberNames.{full_name, given_name, new_name, defined_name, part_name, symbols_read, symbols_of}
 use Rattle.json_span.specs.Parts.{later, last_member}
-use Rattle.avro_schema.specs.declared.error.SchemaNo.{SchemaNo}
-use Rattle.avro_schema.specs.declared.error.SchemaNo.TheVariants.{BadType, UnknownName, Redefined, BadName, Float}
+use Rattle.avro_names.specs.declared.error.SchemaNo.{SchemaNo}
+use Rattle.avro_names.specs.declared.error.SchemaNo.TheVariants.{BadType, UnknownName, Redefined, BadName, Float}
 use Rattle.avro_schema.proofs.PlainNames.{same_bytes}
 use Rattle.avro_schema.proofs.Numerals.{size_bound}
 use Rattle.avro_schema.proofs.Again.{json_of, branches_json, fields_json, symbols_json, named_text, IsNew, Good, GoodSymbols, GoodBranches, GoodFields}

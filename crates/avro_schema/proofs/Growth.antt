@@ -4,14 +4,15 @@ use Rattle.std.specs.List.{slice_get}
 use Rattle.std.proofs.lemmas.List.{append-nil}
 use Rattle.avro_schema.specs.Types.{AvroType, Defined, definitions}
 use Rattle.avro_schema.specs.Forms.{type_of, types_of, AreBefore, EachBefore}
-use Rattle.avro_schema.specs.Reading.{Outcome, is_among}
-use Rattle.avro_schema.specs.Building.{names_in, names_of, FirstNamed, IsBuilt, DefinesIn, Grows, Makes, Tells, defined_at}
+use Rattle.avro_schema.specs.Reading.{Outcome}
+use Rattle.avro_names.specs.Definitions.{names_in, FirstNamed}
+use Rattle.avro_schema.specs.Building.{names_of, IsBuilt, DefinesIn, Grows, Makes, Tells}
 use Rattle.avro_schema.specs.declared.parts.Form.{Form}
 use Rattle.avro_schema.specs.declared.parts.Form.TheVariants.{Named}
-use Rattle.avro_schema.specs.declared.definitions.Definition.{Definition}
+use Rattle.avro_names.specs.declared.definitions.Definition.{Definition}
 use Rattle.avro_schema.specs.declared.parts.Parts.{Parts}
-use Rattle.avro_schema.specs.declared.error.SchemaNo.{SchemaNo}
-use Rattle.avro_schema.specs.declared.error.SchemaNo.TheVariants.{Want}
+use Rattle.avro_names.specs.declared.error.SchemaNo.{SchemaNo}
+use Rattle.avro_names.specs.declared.error.SchemaNo.TheVariants.{Want}
 use Rattle.avro_schema.proofs.Grown.{stands_stay, each_push, length-types_of, types_of-push}
 
 -- ---- lists
@@ -32,36 +33,6 @@ get_push (z ∷ xs) y zero x h = inl h
 get_push (z ∷ xs) y (suc k) x h = get_push xs y k x h
 
 -- ---- definitions
-
-pub names_in-append : (xs ys : List Definition) → names_in (xs ++ ys) ≡ names_in xs ++ names_in ys
-names_in-append [] ys = refl
-names_in-append (x ∷ xs) ys = ap (λ ns. x.name ∷ ns) (names_in-append xs ys)
-
-pub names_in-defined_at : (xs : List Definition) (d node : ℕ) → names_in (defined_at xs d node) ≡ names_in xs
-names_in-defined_at [] d node = refl
-names_in-defined_at (x ∷ xs) zero node = refl
-names_in-defined_at (x ∷ xs) (suc d) node = ap (λ ns. x.name ∷ ns) (names_in-defined_at xs d node)
-
-pub first_stays : (xs ys : List Definition) (name : List ℕ) (d : ℕ) → FirstNamed xs name d → FirstNamed (xs ++ ys) name d
-first_stays [] ys name d h = absurd h
-first_stays (x ∷ xs) ys name zero h = h
-first_stays (x ∷ xs) ys name (suc d) h = (h.0, first_stays xs ys name d h.1)
-
-pub first_defined_at : (xs : List Definition) (i node : ℕ) (name : List ℕ) (d : ℕ) → FirstNamed xs name d → FirstNamed (defined_at xs i node) name d
-first_defined_at [] i node name d h = absurd h
-first_defined_at (x ∷ xs) zero node name zero h = h
-first_defined_at (x ∷ xs) zero node name (suc d) h = h
-first_defined_at (x ∷ xs) (suc i) node name zero h = h
-first_defined_at (x ∷ xs) (suc i) node name (suc d) h = (h.0, first_defined_at xs i node name d h.1)
-
-pub first_among : (xs : List Definition) (name : List ℕ) (d : ℕ) → FirstNamed xs name d → is_among name (names_in xs) ≡ true
-first_among [] name d h = absurd h
-first_among (x ∷ xs) name zero h = ap (λ t. t || is_among name (names_in xs)) h
-first_among (x ∷ xs) name (suc d) h = ap (λ t. t || is_among name (names_in xs)) h.0 ∙ first_among xs name d h.1
-
-pub defined_at-behind : (xs ys : List Definition) (name : List ℕ) (old node : ℕ) → defined_at ((xs ++ ((record { name = name; node = old }) ∷ [])) ++ ys) (length xs) node ≡ xs ++ ((record { name = name; node = node }) ∷ ys)
-defined_at-behind [] ys name old node = refl
-defined_at-behind (x ∷ xs) ys name old node = ap (λ zs. x ∷ zs) (defined_at-behind xs ys name old node)
 
 pub defines_stay : (fs more : List Form) (xs : List Definition) (ds : List Defined) → DefinesIn (types_of fs) xs ds → DefinesIn (types_of (fs ++ more)) xs ds
 defines_stay fs more [] [] h = tt

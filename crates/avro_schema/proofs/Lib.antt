@@ -1,12 +1,8 @@
 pub mod Grown
 pub mod Found
-pub mod NameLists
-pub mod NameLemmas
-pub mod DefinitionLemmas
 pub mod Growth
 pub mod NamedLemmas
-pub mod Outcomes
-pub mod ListLemmas
+pub mod SizeLemmas
 pub mod DefinedLemmas
 pub mod Closing
 pub mod FieldLoops

@@ -4,16 +4,20 @@ use Rattle.std.specs.Str.{bytes_eq}
 use Rattle.std.specs.Prelude.{codes}
 use Rattle.avro_schema.specs.Types as types
 use Rattle.avro_schema.specs.Types.{AvroType, definitions}
-use Rattle.avro_schema.specs.Names.{is_float}
+use Rattle.avro_names.specs.Names.{is_float}
 use Rattle.avro_schema.specs.Forms.{type_of, types_of, AreBefore}
-use Rattle.avro_schema.specs.Reading.{Outcome, reads, known, full_name, type_by_name}
-use Rattle.avro_schema.specs.Building.{names_of, FirstNamed, IsBuilt, Tells, Why, FindsName, primitive_form}
+use Rattle.avro_schema.specs.Reading.{Outcome, reads, known, type_by_name}
+use Rattle.avro_names.specs.MemberNames.{full_name}
+use Rattle.avro_schema.specs.Building.{names_of, IsBuilt, Tells, primitive_form}
+use Rattle.avro_names.specs.Definitions.{FirstNamed, FindsName}
+use Rattle.avro_names.specs.Outcomes.{Why}
 use Rattle.avro_schema.specs.declared.parts.Form.{Form}
 use Rattle.avro_schema.specs.declared.parts.Form.TheVariants.{Null, Boolean, Int, Long, Bytes, Text, Named}
 use Rattle.avro_schema.specs.declared.parts.Parts.{Parts}
-use Rattle.avro_schema.specs.declared.error.SchemaNo.{SchemaNo}
-use Rattle.avro_schema.specs.declared.error.SchemaNo.TheVariants.{UnknownName, Float, Want}
-use Rattle.avro_schema.proofs.Growth.{grows_refl, tells_push, first_among}
+use Rattle.avro_names.specs.declared.error.SchemaNo.{SchemaNo}
+use Rattle.avro_names.specs.declared.error.SchemaNo.TheVariants.{UnknownName, Float, Want}
+use Rattle.avro_schema.proofs.Growth.{grows_refl, tells_push}
+use Rattle.avro_names.proofs.DefinitionLemmas.{first_among}
 
 -- a form that stands alone
 abbrev pub IsLeaf : Form → Type 0

@@ -7,13 +7,14 @@ use Rattle.std.proofs.lemmas.Str.Ascii.{IsAscii-nil, IsAscii-cons}
 use Rattle.std.proofs.lemmas.Bool.Decides.{nat_tests}
 use Rattle.avro_schema.specs.Types.{AvroType, Branches, Fields, null, boolean, int, long, bytes, string, array, map, union, fixed, enum_, record_, named, no_branches, branch, no_fields, field, branch_name}
 use Rattle.avro_schema.specs.Canonical.{canonical_form}
-use Rattle.avro_schema.specs.Reading.{is_among, ReadsAs}
+use Rattle.avro_names.specs.NameList.{is_among}
+use Rattle.avro_schema.specs.Reading.{ReadsAs}
 use Rattle.avro_schema.specs.Forms.{type_at, types_of, IsSchema}
 use Rattle.avro_schema.specs.Nodes.{SchemaValue, tree_of}
 use Rattle.avro_schema.specs.declared.parts.Form.{Form}
-use Rattle.avro_schema.specs.declared.definitions.Definition.{Definition}
+use Rattle.avro_names.specs.declared.definitions.Definition.{Definition}
 use Rattle.avro_schema.specs.Distinct.{AreDistinct, HasNames, BranchesHaveNames, FieldsHaveNames, branch_names, field_names}
-use Rattle.avro_schema.proofs.NameLemmas.{and_first, and_second}
+use Rattle.avro_names.proofs.NameLemmas.{and_first, and_second}
 use Rattle.avro_schema.proofs.PlainNames.{is_plain_byte, is_plain_text, part_plain, definable_plain, same_bytes}
 use Rattle.avro_schema.proofs.Again.{Good, GoodSymbols, GoodBranches, GoodFields}
 use Rattle.avro_schema.proofs.GoodReading.{reader_good}

@@ -9,7 +9,7 @@ use Rattle.json_token.specs.Grammar.{AreDigits, IsNumeral}
 use Rattle.json_token.specs.Integer as integer
 use Rattle.json_token.proofs.NumberGrammar.{numeral_number}
 use Rattle.avro_schema.specs.Reading.{are_digits, digits_size}
-use Rattle.avro_schema.specs.declared.error.SchemaNo.TheVariants.{BadType}
+use Rattle.avro_names.specs.declared.error.SchemaNo.TheVariants.{BadType}
 
 -- the first digit isn't 0
 record Leading (ds : List ℕ) : Type 0 where

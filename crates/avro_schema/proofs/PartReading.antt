@@ -7,17 +7,20 @@ use Rattle.json_span.specs.declared.tree.Tree.{Tree}
 use Rattle.avro_schema.specs.Types as types
 use Rattle.avro_schema.specs.Types.{AvroType, Branches, Fields, definitions, branch_definitions, field_definitions}
 use Rattle.avro_schema.specs.Forms.{type_of, types_of, branches_at, fields_at, AreBefore}
-use Rattle.avro_schema.specs.Reading.{Outcome, Reader, reads, next, union_read, branches_read, record_read, defined_name, fields_of}
+use Rattle.avro_schema.specs.Reading.{Outcome, Reader, reads, union_read, branches_read, record_read, fields_of}
+use Rattle.avro_names.specs.Outcomes.{next}
+use Rattle.avro_names.specs.MemberNames.{defined_name}
 use Rattle.json_span.specs.Parts.{last_member}
-use Rattle.avro_schema.specs.Names.{namespace_of}
-use Rattle.avro_schema.specs.Building.{names_of, Tells, Why, MakesFields, NamesNew, Finishes, BranchesSoFar}
+use Rattle.avro_names.specs.Names.{namespace_of}
+use Rattle.avro_schema.specs.Building.{names_of, Tells, MakesFields, NamesNew, Finishes, BranchesSoFar}
+use Rattle.avro_names.specs.Outcomes.{Why}
 use Rattle.avro_schema.specs.declared.parts.Form.{Form}
 use Rattle.avro_schema.specs.declared.parts.Form.TheVariants.{Named}
 use Rattle.avro_schema.specs.declared.parts.Field.{Field}
 use Rattle.avro_schema.specs.declared.parts.Parts.{Parts}
-use Rattle.avro_schema.specs.declared.error.SchemaNo.{SchemaNo}
-use Rattle.avro_schema.specs.declared.error.SchemaNo.TheVariants.{Want}
-use Rattle.avro_schema.proofs.Outcomes.{next_ok, why_along, why_first}
+use Rattle.avro_names.specs.declared.error.SchemaNo.{SchemaNo}
+use Rattle.avro_names.specs.declared.error.SchemaNo.TheVariants.{Want}
+use Rattle.avro_names.proofs.Outcomes.{next_ok, why_along, why_first}
 use Rattle.avro_schema.proofs.Growth.{tells_push}
 use Rattle.avro_schema.proofs.Closing.{named_names, closed_tells}
 use Rattle.avro_schema.proofs.BranchLoops.{branches_done}

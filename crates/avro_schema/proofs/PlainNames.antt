@@ -5,8 +5,8 @@ use Rattle.std.specs.Str.{bytes_eq}
 use Rattle.std.proofs.lemmas.Slice.Eq.{bytes_eq-Decides}
 use Rattle.std.proofs.lemmas.Bool.Decides.{nat_tests}
 use Rattle.json_token.specs.Chars.{content, content_behind, anything, backslash, next_inside, after_lead, IsChars}
-use Rattle.avro_schema.specs.Names.{is_letter, is_letter_or_digit, has_dot, is_tail, is_part, are_parts, are_more_parts, last_part, is_primitive, is_definable}
-use Rattle.avro_schema.proofs.NameLemmas.{and_first, and_second, no_dot}
+use Rattle.avro_names.specs.Names.{is_letter, is_letter_or_digit, has_dot, is_tail, is_part, are_parts, are_more_parts, last_part, is_primitive, is_definable}
+use Rattle.avro_names.proofs.NameLemmas.{and_first, and_second, no_dot}
 
 -- a byte that stands for itself between quotes
 abbrev pub is_plain_byte : ℕ → Bool

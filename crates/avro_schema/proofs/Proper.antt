@@ -8,11 +8,14 @@ use Rattle.json_token.specs.Integer.{decimal}
 use Rattle.avro_schema.specs.Types as types
 use Rattle.avro_schema.specs.Types.{AvroType, Fields, Branches, branch, field, branch_name}
 use Rattle.avro_schema.specs.Canonical.{canonical_form}
-use Rattle.avro_schema.specs.Names.{is_part, is_float, is_definable, has_dot, namespace_of}
-use Rattle.avro_schema.specs.Reading.{Outcome, Reader, next, is_among, reads, known, full_name, type_by_name, name_in, given_name, new_name, defined_name, part_name, symbols_read, symbols_of, are_digits, digits_size, size_of, part_type, field_read, fields_read, fields_of, branch_read, branches_read, union_read, object_by_word, object_read, one_level, no_level, reader, short_enough, schema_of}
+use Rattle.avro_names.specs.Names.{is_part, is_float, is_definable, has_dot, namespace_of}
+use Rattle.avro_schema.specs.Reading.{Outcome, Reader, reads, known, type_by_name, are_digits, digits_size, size_of, part_type, field_read, fields_read, fields_of, branch_read, branches_read, union_read, object_by_word, object_read, one_level, no_level, reader, short_enough, schema_of}
+use Rattle.avro_names.specs.Outcomes.{next}
+use Rattle.avro_names.specs.NameList.{is_among}
+use Rattle.avro_names.specs.MemberNames.{full_name, name_in, given_name, new_name, defined_name, part_name, symbols_read, symbols_of}
 use Rattle.json_span.specs.Parts.{last_member}
-use Rattle.avro_schema.specs.declared.error.SchemaNo.{SchemaNo}
-use Rattle.avro_schema.specs.declared.error.SchemaNo.TheVariants.{NotJson, BadType, UnknownName, Redefined, BadName, Float, TooLong}
+use Rattle.avro_names.specs.declared.error.SchemaNo.{SchemaNo}
+use Rattle.avro_names.specs.declared.error.SchemaNo.TheVariants.{NotJson, BadType, UnknownName, Redefined, BadName, Float, TooLong}
 
 abbrev pub IsProper : {T : Type 0} → Result T SchemaNo → Type 0
 IsProper o = o ≡ Err NotJson → ⊥

@@ -6,9 +6,10 @@ use Rattle.json_span.specs.Text.{IsText}
 use Rattle.json_span.specs.Refusals.{max_levels}
 use Rattle.avro_schema.specs.Types.{AvroType}
 use Rattle.avro_schema.specs.Canonical.{canonical_form}
-use Rattle.avro_schema.specs.Reading.{Read, reader, next, short_enough, schema_of, ReadsAs}
-use Rattle.avro_schema.specs.declared.error.SchemaNo.{SchemaNo}
-use Rattle.avro_schema.specs.declared.error.SchemaNo.TheVariants.{TooLong}
+use Rattle.avro_schema.specs.Reading.{Read, reader, short_enough, schema_of, ReadsAs}
+use Rattle.avro_names.specs.Outcomes.{next}
+use Rattle.avro_names.specs.declared.error.SchemaNo.{SchemaNo}
+use Rattle.avro_names.specs.declared.error.SchemaNo.TheVariants.{TooLong}
 use Rattle.avro_schema.proofs.Again.{json_of, again}
 use Rattle.avro_schema.proofs.Spells.{form_laid}
 use Rattle.avro_schema.proofs.GoodReading.{reader_good}

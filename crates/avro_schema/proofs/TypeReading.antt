@@ -13,12 +13,13 @@ use Rattle.avro_schema.specs.Types.{AvroType, Branches, Fields, definitions, bra
 use Rattle.avro_schema.specs.Forms.{type_at, types_of}
 use Rattle.avro_schema.specs.Reading.{Outcome, Reader, reader, reads, no_level, one_level, type_by_name, union_read, object_read, object_by_word, record_read, enum_read, fixed_read, array_read, map_read, part_type}
 use Rattle.json_span.specs.Parts.{last_member, IsMember}
-use Rattle.avro_schema.specs.Building.{names_of, Makes, Tells, Why}
+use Rattle.avro_schema.specs.Building.{names_of, Makes, Tells}
+use Rattle.avro_names.specs.Outcomes.{Why}
 use Rattle.avro_schema.specs.declared.parts.Form.TheVariants.{Array, Map}
 use Rattle.avro_schema.specs.declared.parts.Parts.{Parts}
-use Rattle.avro_schema.specs.declared.error.SchemaNo.{SchemaNo}
-use Rattle.avro_schema.specs.declared.error.SchemaNo.TheVariants.{BadType, TooDeep, Want}
-use Rattle.avro_schema.proofs.Outcomes.{next_ok, why_first}
+use Rattle.avro_names.specs.declared.error.SchemaNo.{SchemaNo}
+use Rattle.avro_names.specs.declared.error.SchemaNo.TheVariants.{BadType, TooDeep, Want}
+use Rattle.avro_names.proofs.Outcomes.{next_ok, why_first}
 use Rattle.avro_schema.proofs.Grown.{length-types_of}
 use Rattle.avro_schema.proofs.Growth.{tells_push}
 use Rattle.avro_schema.proofs.NamedLemmas.{tells_along}

@@ -2,46 +2,28 @@
 use Rattle.std.specs.Prelude.{◌≡◌, ℕ, zero, suc, ◌<◌, List, [], ◌∷◌, ◌++◌, length, slice_get, All, Bool, true, false, cond, codes, bytes_eq, Option, Some, None, Result, Ok, Err, ◌⊎◌, ⊤}
 use Rattle.json_span.specs.Json.{Json, Items, Members, text, array, object}
 use Rattle.json_span.specs.Nodes.{Stands, StandForMembers, StandForItems}
-use Rattle.json_span.specs.Parts.{IsTextOf}
-use Rattle.std.specs.Borrow.{Bor}
 use Rattle.json_span.specs.declared.tree.Tree.{Tree}
 use Rattle.json_span.specs.declared.tree.Member.{Member}
 use Rattle.avro_schema.specs.Types.{AvroType, Branches, Fields, Defined, no_branches, branch, no_fields, field, branch_name, definitions, field_definitions, branch_definitions}
-use Rattle.avro_schema.specs.Reading.{Outcome, Reader, FieldType, is_among, symbols_read, fields_read, branches_read, short_enough, ReadsAs}
+use Rattle.avro_schema.specs.Reading.{Outcome, Reader, FieldType, fields_read, branches_read, short_enough, ReadsAs}
+use Rattle.avro_names.specs.Outcomes.{Why}
 use Rattle.avro_schema.specs.Canonical.{canonical_form}
 use Rattle.avro_schema.specs.Nodes.{SchemaValue}
 use Rattle.avro_schema.specs.Refusals.{Answers}
-use Rattle.avro_schema.specs.Names.{are_parts}
-pub use Rattle.avro_schema.specs.Definitions.{names_in}
+use Rattle.avro_names.specs.Names.{are_parts}
+use Rattle.avro_names.specs.Definitions.{names_in, FirstNamed, defined_at}
 use Rattle.avro_schema.specs.Forms.{type_at, branches_at, fields_at, types_of, EachBefore}
 use Rattle.avro_schema.specs.declared.parts.Form.{Form}
 use Rattle.avro_schema.specs.declared.parts.Form.TheVariants.{Null, Boolean, Int, Long, Bytes, Text, Named}
 use Rattle.avro_schema.specs.declared.parts.Field.{Field}
-use Rattle.avro_schema.specs.declared.definitions.Definition.{Definition}
+use Rattle.avro_names.specs.declared.definitions.Definition.{Definition}
 use Rattle.avro_schema.specs.declared.parts.Parts.{Parts}
-use Rattle.avro_schema.specs.declared.error.SchemaNo.{SchemaNo}
-use Rattle.avro_schema.specs.declared.error.SchemaNo.TheVariants.{Want}
+use Rattle.avro_names.specs.declared.error.SchemaNo.{SchemaNo}
+use Rattle.avro_names.specs.declared.error.SchemaNo.TheVariants.{Want}
 
 -- the fullnames defined so far
 abbrev pub names_of : Parts → List (List ℕ)
 names_of p = names_in p.definitions
-
--- number d is the first definition of the name
-abbrev pub FirstNamed : List Definition → List ℕ → ℕ → Type 0
-FirstNamed [] name d = ⊥
-FirstNamed (x ∷ xs) name zero = bytes_eq x.name name ≡ true
-FirstNamed (x ∷ xs) name (suc d) = (bytes_eq x.name name ≡ false) × FirstNamed xs name d
-
--- the first definition of the name, or none
-abbrev pub FindsName : List Definition → List ℕ → Option ℕ → Type 0
-FindsName xs name None = is_among name (names_in xs) ≡ false
-FindsName xs name (Some d) = FirstNamed xs name d
-
--- definition d has this node
-abbrev pub defined_at : List Definition → ℕ → ℕ → List Definition
-defined_at [] d node = []
-defined_at (x ∷ xs) zero node = record { name = x.name; node = node } ∷ xs
-defined_at (x ∷ xs) (suc d) node = x ∷ defined_at xs d node
 
 -- each node's parts are before it, and each reference leads to the first definition of its name
 pub record IsBuilt (p : Parts) : Type 0 where
@@ -63,10 +45,6 @@ pub record Grows (old new : Parts) (ds : List Defined) : Type 0 where
   pub definitions_are : new.definitions ≡ old.definitions ++ made
   pub define : DefinesIn (types_of new.nodes.items) made ds
   pub built : IsBuilt new
-
--- the answer of reading is this refusal, or want of memory
-abbrev pub Why : {T : Type 0} → Result T SchemaNo → SchemaNo → Type 0
-Why o e = (o ≡ Err e) ⊎ (e ≡ Want)
 
 -- the outcome is a type, and node k was made of it
 pub record Makes (o : Outcome AvroType) (old new : Parts) (k : ℕ) : Type 0 where
@@ -168,19 +146,6 @@ unfoldable pub primitive_form : List ℕ → Option Form
 primitive_form name =
     cond (bytes_eq name (codes "null")) (Some Null) (cond (bytes_eq name (codes "boolean")) (Some Boolean) (cond (bytes_eq name (codes "int")) (Some Int)
     (cond (bytes_eq name (codes "long")) (Some Long) (cond (bytes_eq name (codes "bytes")) (Some Bytes) (cond (bytes_eq name (codes "string")) (Some Text) None)))))
-
--- the text of a member that is there and is one
-abbrev pub IsTextMember : Option Json → Option (Bor (List ℕ)) → Type 0
-IsTextMember None None = ⊤
-IsTextMember None (Some t) = ⊥
-IsTextMember (Some j) r = IsTextOf j r
-
--- the symbols so far, and what is read of the rest behind them
-pub record SymbolsSoFar (tree : Tree) (js : Items) (rest : List ℕ) (seen : List (List ℕ)) : Type 0 where
-  pub left : Items
-  pub stand : StandForItems tree rest left
-  pub ok : (ss : List (List ℕ)) → symbols_read seen left ≡ Ok ss → symbols_read [] js ≡ Ok (seen ++ ss)
-  pub err : (e : SchemaNo) → symbols_read seen left ≡ Err e → symbols_read [] js ≡ Err e
 
 -- these parts are those of a whole schema
 pub record Finished (p : Parts) (root : ℕ) (t : AvroType) : Type 0 where

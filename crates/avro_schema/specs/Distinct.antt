@@ -3,7 +3,7 @@
 use Rattle.std.specs.Prelude.{◌≡◌, ℕ, List, [], ◌∷◌, true, false, ⊤}
 use Rattle.std.specs.Str.{is_utf8}
 use Rattle.avro_schema.specs.Types.{AvroType, Branches, Fields, null, boolean, int, long, bytes, string, array, map, union, fixed, enum_, record_, named, no_branches, branch, no_fields, field, branch_name}
-use Rattle.avro_schema.specs.Reading.{is_among}
+use Rattle.avro_names.specs.NameList.{is_among}
 
 -- the names of a union's branches
 abbrev pub branch_names : Branches → List (List ℕ)

@@ -1,7 +1,4 @@
 pub mod Types
-pub mod Names
-pub mod NameList
-pub mod Definitions
 pub mod Canonical
 pub mod Reading
 pub mod Refusals

@@ -1,6 +1,6 @@
 -- What a JSON value is as a schema (Apache Avro 1.11 specification, "Schema Declaration"), or why it is none: the first
 -- cause in reading order. An object is read by its `type`, then its name, then its parts.
-use Rattle.std.specs.Prelude.{◌≡◌, ℕ, zero, suc, List, [], ◌∷◌, ◌++◌, length, Bool, true, false, cond, ◌||◌, ◌&&◌, nat_le, codes, bytes_eq, Option, Some, None, Result, Ok, Err}
+use Rattle.std.specs.Prelude.{◌≡◌, ℕ, zero, suc, List, [], ◌∷◌, ◌++◌, length, Bool, true, false, cond, ◌&&◌, nat_le, codes, bytes_eq, Option, Some, None, Result, Ok, Err}
 use Rattle.json_span.specs.Json.{Json, Items, Members, number, text, array, object, no_items, item, no_members, member}
 use Rattle.json_token.specs.Chars.{content}
 use Rattle.json_span.specs.Text.{IsText}
@@ -10,10 +10,13 @@ use Rattle.json_token.specs.Integer.{decimal}
 use Rattle.json_span.specs.Parts.{last_member}
 use Rattle.avro_schema.specs.Types as types
 use Rattle.avro_schema.specs.Types.{AvroType, Branches, Fields, no_branches, branch, no_fields, field, branch_name}
-use Rattle.avro_schema.specs.Names.{is_part, is_float, is_definable, has_dot, in_namespace, namespace_of}
+use Rattle.avro_names.specs.Names.{is_float, namespace_of}
+use Rattle.avro_names.specs.NameList.{is_among}
+use Rattle.avro_names.specs.Outcomes.{next}
+use Rattle.avro_names.specs.MemberNames.{full_name, defined_name, part_name, symbols_of}
 use Rattle.avro_schema.specs.Canonical.{canonical_form}
-use Rattle.avro_schema.specs.declared.error.SchemaNo.{SchemaNo}
-use Rattle.avro_schema.specs.declared.error.SchemaNo.TheVariants.{BadType, UnknownName, Redefined, BadName, Float, TooDeep, TooLong}
+use Rattle.avro_names.specs.declared.error.SchemaNo.{SchemaNo}
+use Rattle.avro_names.specs.declared.error.SchemaNo.TheVariants.{BadType, UnknownName, Float, TooDeep, TooLong}
 
 -- what was read, and the fullnames that are defined then
 pub record Read (T : Type 0) : Type 0 where
@@ -27,15 +30,6 @@ Outcome T = Result (Read T) SchemaNo
 abbrev pub Reader : Type 0
 Reader = Bool → List (List ℕ) → List ℕ → Json → Outcome AvroType
 
--- what comes next, unless there is a refusal
-abbrev pub next : {S T : Type 0} → Result S SchemaNo → (S → Result T SchemaNo) → Result T SchemaNo
-next (Ok x) f = f x
-next (Err e) f = Err e
-
-abbrev pub is_among : List ℕ → List (List ℕ) → Bool
-is_among name [] = false
-is_among name (n ∷ names) = bytes_eq n name || is_among name names
-
 -- ---- names
 
 abbrev pub reads : AvroType → List (List ℕ) → Outcome AvroType
@@ -43,10 +37,6 @@ reads t names = Ok (record { value = t; names = names })
 
 abbrev pub known : List (List ℕ) → List ℕ → Outcome AvroType
 known names name = cond (is_among name names) (reads (types.named name) names) (Err UnknownName)
-
--- a name as a fullname; in canonical reading it is one
-abbrev pub full_name : Bool → List ℕ → List ℕ → List ℕ
-full_name canonical namespace name = cond (canonical || has_dot name) name (in_namespace namespace name)
 
 -- a type by its name: a primitive's, or that of one which was defined before
 unfoldable pub type_by_name : Bool → List (List ℕ) → List ℕ → List ℕ → Outcome AvroType
@@ -59,41 +49,7 @@ type_by_name canonical names namespace name =
     (cond (bytes_eq name (codes "string")) (reads types.string names)
     (cond (is_float name) (Err Float) (known names (full_name canonical namespace name))))))))
 
--- a name without dots is in the namespace that its object gives, or else in the enclosing one
-abbrev pub name_in : List ℕ → List ℕ → Option Json → Result (List ℕ) SchemaNo
-name_in namespace name None = Ok (in_namespace namespace name)
-name_in namespace name (Some (text s)) = Ok (in_namespace (content s) name)
-name_in namespace name (Some j) = Err BadType
-
--- the fullname that an object gives; in canonical reading each name is one
-abbrev pub given_name : Bool → List ℕ → Option Json → Option Json → Result (List ℕ) SchemaNo
-given_name canonical enclosing (Some (text s)) namespace = cond (canonical || has_dot (content s)) (Ok (content s)) (name_in enclosing (content s) namespace)
-given_name canonical enclosing (Some j) namespace = Err BadType
-given_name canonical enclosing None namespace = Err BadType
-
-abbrev pub new_name : List (List ℕ) → List ℕ → Result (List ℕ) SchemaNo
-new_name names name = cond (is_among name names) (Err Redefined) (cond (is_definable name) (Ok name) (Err BadName))
-
--- the fullname of the type that an object defines
-unfoldable pub defined_name : Bool → List (List ℕ) → List ℕ → Members → Result (List ℕ) SchemaNo
-defined_name canonical names enclosing ms = next (given_name canonical enclosing (last_member (codes "name") ms) (last_member (codes "namespace") ms)) (new_name names)
-
--- a field's name or a symbol, after those before it
-abbrev pub part_name : List (List ℕ) → Option Json → Result (List ℕ) SchemaNo
-part_name seen (Some (text s)) = cond (is_part (content s)) (cond (is_among (content s) seen) (Err BadType) (Ok (content s))) (Err BadName)
-part_name seen (Some j) = Err BadType
-part_name seen None = Err BadType
-
 -- ---- named types
-
-abbrev pub symbols_read : List (List ℕ) → Items → Result (List (List ℕ)) SchemaNo
-symbols_read seen no_items = Ok []
-symbols_read seen (item j js) = next (part_name seen (Some j)) (λ name. next (symbols_read (seen ++ (name ∷ [])) js) (λ rest. Ok (name ∷ rest)))
-
-abbrev pub symbols_of : Option Json → Result (List (List ℕ)) SchemaNo
-symbols_of (Some (array js)) = symbols_read [] js
-symbols_of (Some j) = Err BadType
-symbols_of None = Err BadType
 
 abbrev pub are_digits : List ℕ → Bool
 are_digits [] = true

@@ -6,8 +6,8 @@ use Rattle.json_span.specs.Refusals.{max_levels, IsBadByte, IsCut, IsTooDeep}
 use Rattle.avro_schema.specs.Types.{AvroType}
 use Rattle.avro_schema.specs.Nodes.{SchemaValue, tree_of}
 use Rattle.avro_schema.specs.Reading.{schema_of}
-use Rattle.avro_schema.specs.declared.error.SchemaNo.{SchemaNo}
-use Rattle.avro_schema.specs.declared.error.SchemaNo.TheVariants.{NotJson, BadType, UnknownName, Redefined, BadName, Float, TooDeep, TooLong, Want}
+use Rattle.avro_names.specs.declared.error.SchemaNo.{SchemaNo}
+use Rattle.avro_names.specs.declared.error.SchemaNo.TheVariants.{NotJson, BadType, UnknownName, Redefined, BadName, Float, TooDeep, TooLong, Want}
 
 -- the bytes are a JSON text of a value that is refused as a schema
 abbrev pub IsRefused : Bool → List ℕ → SchemaNo → Type 0

@@ -3,12 +3,12 @@ ghost use Rattle.avro_schema.specs.Types.{AvroType, Branches, Fields, union, enu
 ghost use Rattle.avro_schema.specs.Nodes.{tree_of, Stands, HasNode, Resolves, StandForBranches, StandForFields, IsKindOf, IsOfKind};
 ghost use Rattle.avro_schema.specs.Forms.{IsSchema, IsFormOf};
 ghost use Rattle.avro_schema.specs.Distinct.{HasNames};
-ghost use Rattle.avro_schema.specs.NameList.{place_of};
+ghost use Rattle.avro_names.specs.NameList.{place_of};
 
-use crate::definitions::Definitions;
 use crate::parts::{Field, Form};
 use crate::pick::{branches_in, fields_in, kind_in, name_in, symbol_in, symbols_in};
 use crate::schema::{Kind, Schema};
+use avro_names::Definitions;
 use gate_io::Text;
 
 /// The form of a node, or of the definition that it refers to.

@@ -1,15 +1,15 @@
 ghost use Rattle.std.specs.Prelude.{◌≡◌, ◌<◌, ◌++◌, [], ◌∷◌, length, IfOk, IfErr};
 ghost use Rattle.avro_schema.specs.Building.{Finishes};
 
-use crate::definitions::Definitions;
-use crate::error::SchemaNo;
-use crate::name_list::NameList;
+use avro_names::{Definitions, NameList, SchemaNo};
 use gate_io::Text;
 
-/// A field of a record: its name, and the node of its type.
+/// A field of a record.
 #[derive(Debug, Drop)]
 pub struct Field {
+    /// The name, which no other field of the record has.
     pub name: Text,
+    /// The node of its type.
     pub node: u32,
 }
 

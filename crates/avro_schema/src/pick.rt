@@ -1,6 +1,6 @@
 ghost use Rattle.std.specs.Prelude.{◌≡◌, true};
 ghost use Rattle.avro_schema.specs.Forms.{is_plain};
-ghost use Rattle.avro_schema.specs.NameList.{place_of};
+ghost use Rattle.avro_names.specs.NameList.{place_of};
 ghost use Rattle.avro_schema.specs.Picks.{kind_in, branches_in, symbols_in, fields_in, name_in};
 
 use crate::parts::{Field, Form};
@@ -29,6 +29,7 @@ pub(crate) fn kind_in(form: &Form) -> Kind
     }
 }
 
+/// The nodes of a union's branches. None at another form.
 pub(crate) fn branches_in(form: &Form) -> &[u32]
     ensures { result.now ≡ branches_in form.now }
 {
@@ -38,6 +39,7 @@ pub(crate) fn branches_in(form: &Form) -> &[u32]
     }
 }
 
+/// The symbols of an enum. None at another form.
 pub(crate) fn symbols_in(form: &Form) -> &[Text]
     ensures { result.now ≡ symbols_in form.now }
 {
@@ -57,6 +59,7 @@ pub(crate) fn symbol_in(form: &Form, name: &str) -> Option<usize>
     }
 }
 
+/// The fields of a record. None at another form.
 pub(crate) fn fields_in(form: &Form) -> &[Field]
     ensures { result.now ≡ fields_in form.now }
 {

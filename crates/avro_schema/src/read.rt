@@ -12,11 +12,10 @@ ghost use Rattle.avro_schema.specs.Forms.{type_at, types_of, EachBefore};
 ghost use Rattle.avro_schema.specs.Building.{Finished, Ends, FormReads};
 
 use crate::canonical::write_type;
-use crate::definitions::Definitions;
-use crate::error::SchemaNo;
 use crate::parts::{Form, Parts};
 use crate::reader::read_type;
 use crate::schema::Schema;
+use avro_names::{Definitions, SchemaNo};
 use gate_io::{Text, Want};
 use json_span::{JsonNo, Tree};
 use std::alloc::Global;

@@ -1,17 +1,15 @@
 ghost use Rattle.std.specs.Prelude.{◌≡◌, ◌<◌, length, All, Option, IfOk, IfErr, OnOk, codes};
 ghost use Rattle.json_span.specs.Json.{Json, Members, Items, object, array};
-ghost use Rattle.json_span.specs.Nodes.{Stands, StandForItems};
+ghost use Rattle.json_span.specs.Nodes.{Stands, StandForItems, HasNode};
 ghost use Rattle.avro_schema.specs.Reading.{reader, object_read, object_by_word, record_read, part_type, fields_of, field_read, branch_read, union_read};
 ghost use Rattle.json_span.specs.Parts.{last_member, IsMember};
-ghost use Rattle.avro_schema.specs.Building.{names_of, IsBuilt, Tells, Why, MakesField, MakesFields, MakesBranch, names_of_fields, names_of_branches};
+ghost use Rattle.avro_schema.specs.Building.{names_of, IsBuilt, Tells, MakesField, MakesFields, MakesBranch, names_of_fields, names_of_branches, IsObject};
+ghost use Rattle.avro_names.specs.Outcomes.{Why};
 ghost use Rattle.avro_schema.specs.Forms.{types_of};
 
-use crate::error::SchemaNo;
-use crate::members::is_object;
-use crate::name_list::NameList;
-use crate::named::{add_branch, define, part_name, read_enum, read_fixed, type_by_name};
-use crate::names::namespace_of;
+use crate::named::{add_branch, define, read_enum, read_fixed, type_by_name};
 use crate::parts::{Field, Form, Parts};
+use avro_names::{NameList, SchemaNo, namespace_of, part_name};
 use gate_io::Text;
 use json_span::{Kind, Tree};
 use std::alloc::Global;
@@ -330,6 +328,16 @@ fn read_fields(
         }
     }
     Ok(fields)
+}
+
+fn is_object(tree: &Tree, node: u32) -> bool
+    requires { HasNode tree.now node }
+    ensures { (j : Json) → Stands tree.now node j → IsObject j result }
+{
+    match tree.kind(node) {
+        Kind::Object => true,
+        _ => false,
+    }
 }
 
 /// One more field.

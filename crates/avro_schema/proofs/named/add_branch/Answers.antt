@@ -1,5 +1,5 @@
 use Rattle.std.proofs.Common.{[], ◌∷◌, ◌++◌, not, ap, ◌∙◌}
-use Rattle.avro_schema.specs.Reading.{is_among}
+use Rattle.avro_names.specs.NameList.{is_among}
 use Rattle.avro_schema.proofs.Found.{form_name}
 use Rattle.avro_schema.proofs.named.add_branch.Goals as goal
 

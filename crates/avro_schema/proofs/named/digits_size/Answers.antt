@@ -1,6 +1,6 @@
 use Rattle.std.proofs.Common.{◌<◌, arith}
 use Rattle.json_token.specs.Integer.{decimal}
-use Rattle.avro_schema.proofs.ListLemmas.{digits_grow, too_big}
+use Rattle.avro_schema.proofs.SizeLemmas.{digits_grow, too_big}
 use Rattle.avro_schema.proofs.named.digits_size.Goals as goal
 
 pub returns-then-size-gt1048576 : goal.returns-then-size-gt1048576

@@ -1,5 +1,5 @@
 use Rattle.std.proofs.Common.{List, ℕ, subst, sym}
-use Rattle.avro_schema.specs.Building.{FirstNamed}
+use Rattle.avro_names.specs.Definitions.{FirstNamed}
 use Rattle.avro_schema.proofs.NamedLemmas.{reference_tells}
 use Rattle.avro_schema.proofs.named.reference.Goals as goal
 

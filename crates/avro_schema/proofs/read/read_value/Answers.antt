@@ -1,7 +1,8 @@
 use Rattle.std.proofs.Common.{◌≡◌, [], ℕ, false, ap, sym, ◌∙◌, subst}
 use Rattle.json_span.specs.Nodes.{Stands}
 use Rattle.avro_schema.specs.Reading.{reader}
-use Rattle.avro_schema.specs.Building.{names_in, names_of}
+use Rattle.avro_names.specs.Definitions.{names_in}
+use Rattle.avro_schema.specs.Building.{names_of}
 use Rattle.avro_schema.specs.declared.parts.Parts.{Parts}
 use Rattle.avro_schema.proofs.Finished.{finished}
 use Rattle.avro_schema.proofs.ReadBack.{form_reads}

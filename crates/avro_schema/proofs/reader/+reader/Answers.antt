@@ -1,7 +1,7 @@
 use Rattle.std.proofs.Common.{◌≡◌, ◌<◌, ◌++◌, [], ◌∷◌, ℕ, List, Result, OnOk, refl, sym, ap, ◌∙◌, subst, arith}
 use Rattle.std.specs.Prelude.{codes}
 use Rattle.std.proofs.Math.ListN.{drop_of_length-le}
-use Rattle.avro_schema.specs.Names.{namespace_of, are_parts}
+use Rattle.avro_names.specs.Names.{namespace_of, are_parts}
 use Rattle.avro_schema.specs.Reading.{reader}
 use Rattle.json_span.specs.Parts.{last_member}
 use Rattle.avro_schema.specs.Building.{names_of, names_of_fields, names_of_branches, FieldsSoFar, BranchesSoFar}
@@ -9,16 +9,16 @@ use Rattle.avro_schema.specs.Forms.{types_of}
 use Rattle.avro_schema.specs.declared.parts.Form.TheVariants.{Union, Record}
 use Rattle.avro_schema.specs.declared.parts.Field.{Field}
 use Rattle.avro_schema.proofs.NamedLemmas.{tells_along}
-use Rattle.avro_schema.proofs.ListLemmas.{next_item_at}
-use Rattle.avro_schema.proofs.Outcomes.{why_along}
+use Rattle.avro_names.proofs.ListLemmas.{next_item_at}
+use Rattle.avro_names.proofs.Outcomes.{why_along}
 use Rattle.avro_schema.proofs.Closing.{named_built, named_inside}
 use Rattle.avro_schema.proofs.FieldLoops.{names-push, fields_first, fields_refused, fields_more, fields_done}
 use Rattle.avro_schema.proofs.FieldLoops.{list_there, fields_of_list, fields_along}
 use Rattle.avro_schema.proofs.BranchLoops.{branches_first, branches_refused, branches_more, branch_repeated, branch_made, branch_named, made_inside}
-use Rattle.avro_schema.proofs.NameLists.{not_true, not_false}
+use Rattle.avro_names.proofs.NameLists.{not_true, not_false}
 use Rattle.avro_schema.proofs.TypeReading as reading
 use Rattle.avro_schema.proofs.PartReading.{union_tells, union_why, record_why, record_tells}
-use Rattle.avro_schema.specs.declared.error.SchemaNo.{SchemaNo}
+use Rattle.avro_names.specs.declared.error.SchemaNo.{SchemaNo}
 use Rattle.avro_schema.proofs.reader.+reader.Goals as goal
 use Rattle.avro_schema.proofs.reader.+reader.Goals.{read_field-in-Ok-push, read_field-in-Err-push}
 

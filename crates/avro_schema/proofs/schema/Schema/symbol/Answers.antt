@@ -1,5 +1,5 @@
 use Rattle.std.proofs.Common.{ap, ◌∙◌}
-use Rattle.avro_schema.specs.NameList.{place_of}
+use Rattle.avro_names.specs.NameList.{place_of}
 use Rattle.avro_schema.proofs.Found as found
 use Rattle.avro_schema.proofs.schema.Schema.symbol.Goals as goal
 

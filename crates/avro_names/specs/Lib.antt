@@ -1,0 +1,5 @@
+pub mod Names
+pub mod NameList
+pub mod Outcomes
+pub mod Definitions
+pub mod MemberNames

@@ -1,7 +1,0 @@
-use Rattle.std.proofs.Common.{ap, ◌∙◌}
-use Rattle.avro_schema.specs.Definitions.{names_in}
-use Rattle.avro_schema.proofs.DefinitionLemmas.{finds_name}
-use Rattle.avro_schema.proofs.definitions.Definitions.find.Goals as goal
-
-pub returns : goal.returns
-returns c = finds_name _ c.self.inside.names _ _ (c.self.invariant ∙ ap names_in c.self.view_is) c.find.ensures

@@ -1,6 +1,0 @@
-use Rattle.std.proofs.Common.{◌≡◌, drop}
-use Rattle.avro_schema.specs.Names.{is_tail}
-use Rattle.avro_schema.proofs.names.is_tail.Given as goal
-
-abbrev pub invariant-loop-byte : goal.invariant-loop-byte
-invariant-loop-byte l = is_tail l.name ≡ is_tail (drop l.byte-index l.name)
