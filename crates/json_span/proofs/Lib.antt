@@ -7,3 +7,4 @@ pub mod Lifts
 pub mod Turns
 pub mod Lookups
 pub mod MemberLemmas
+pub mod NodeListLemmas

@@ -1,12 +1,13 @@
 -- From the value that a node stands for to the node that is found.
-use Rattle.std.proofs.Common.{◌≡◌, ℕ, zero, suc, ◌+◌, ◌-◌, ◌<◌, ◌≤◌, List, [], ◌∷◌, ◌++◌, length, take, drop, get_or, Some, refl, sym, ap, ◌∙◌, subst, append_assoc, arith}
-use Rattle.std.specs.List.{slice_get, flat_map}
+use Rattle.std.proofs.Common.{◌≡◌, ℕ, zero, suc, ◌+◌, ◌-◌, ◌<◌, ◌≤◌, List, [], ◌∷◌, ◌++◌, length, take, drop, Some, refl, sym, ap, ◌∙◌, subst, append_assoc, arith}
+use Rattle.std.specs.List.{slice_get, flat_map, All}
 use Rattle.std.specs.Str.{IsUtf8}
 use Rattle.std.proofs.lemmas.List.{take_at, length-append, length-drop, drop-drop, append-nil, length-take-le, take-append-drop}
-use Rattle.json_span.specs.Json.{Json, null, boolean, number, text, array, object, tokens, IsWithin}
+use Rattle.json_span.specs.Json.{Json, Items, Members, null, boolean, number, text, array, object, tokens, IsWithin}
 use Rattle.json_token.specs.Tokens.{Token, spelled, Laid, AreTokens}
 use Rattle.json_span.specs.Text.{compact, IsText}
-use Rattle.json_span.specs.Tree.{StandsIn, IsNode, items_of, members_of, HasContent}
+use Rattle.json_span.specs.Tree.{StandsIn, ItemsIn, MembersIn, IsNode, items_of, members_of, HasContent}
+use Rattle.json_span.specs.NodeList.{kind_of_form}
 use Rattle.json_span.specs.Nodes.{kind_of, Stands, HasNode, IsOfKind}
 use Rattle.json_span.specs.declared.tree.Tree.{Tree}
 use Rattle.json_token.specs.Chars.{content, IsChars}
@@ -36,27 +37,8 @@ get_inside [] k n e = absurd cc
 get_inside (x ∷ nodes) zero n e = omega arith
 get_inside (x ∷ nodes) (suc k) n e = let h = get_inside nodes k n e in omega arith
 
-get_is : (nodes : List Node) (k : ℕ) (n d : Node) → slice_get nodes k ≡ Some n → get_or nodes k d ≡ n
-get_is [] k n d e = absurd cc
-get_is (x ∷ nodes) zero n d e = cc
-get_is (x ∷ nodes) (suc k) n d e = get_is nodes k n d e
-
 pub node_inside : (nodes : List Node) (source : List ℕ) (k : ℕ) (j : Json) → StandsIn nodes source k j → k < length nodes
 node_inside nodes source k j h = let f = found nodes source k j h in get_inside nodes k f.n f.node.is
-
--- what was read of the list is that node
-pub node_is : (nodes : List Node) (source : List ℕ) (k : ℕ) (x n : Node) (j : Json) → x ≡ get_or nodes k x → IsNode nodes source k n j → x ≡ n
-node_is nodes source k x n j e i = e ∙ get_is nodes k n x i.is
-
--- what a form says of its node
-abbrev pub kind_of_form : Form → Kind
-kind_of_form Null = kinds.Null
-kind_of_form (Flag b) = kinds.Bool b
-kind_of_form Number = kinds.Number
-kind_of_form Plain = kinds.Text
-kind_of_form (Escaped t) = kinds.Text
-kind_of_form (Array v) = kinds.Array
-kind_of_form (Object v) = kinds.Object
 
 text_kind : (f : Form) (s : List ℕ) → HasContent f s → kind_of_form f ≡ kinds.Text
 text_kind Plain s h = refl
@@ -85,32 +67,34 @@ object_kind Plain vs e = absurd cc
 object_kind (Escaped t) vs e = absurd cc
 object_kind (Array v) vs e = absurd cc
 
-pub kind_stands : (nodes : List Node) (source : List ℕ) (k : ℕ) (x : Node) (j : Json) → x ≡ get_or nodes k x → StandsIn nodes source k j → kind_of_form x.form ≡ kind_of j
-kind_stands nodes source k x null e h = ap (λ (y : Node). kind_of_form y.form) (node_is nodes source k x h.0 null e h.1) ∙ ap kind_of_form h.2
-kind_stands nodes source k x (boolean b) e h = ap (λ (y : Node). kind_of_form y.form) (node_is nodes source k x h.0 (boolean b) e h.1) ∙ ap kind_of_form h.2
-kind_stands nodes source k x (number s) e h = ap (λ (y : Node). kind_of_form y.form) (node_is nodes source k x h.0 (number s) e h.1) ∙ ap kind_of_form h.2
-kind_stands nodes source k x (text s) e h = ap (λ (y : Node). kind_of_form y.form) (node_is nodes source k x h.0 (text s) e h.1) ∙ text_kind h.0.form s h.2
-kind_stands nodes source k x (array js) e h = ap (λ (y : Node). kind_of_form y.form) (node_is nodes source k x h.0 (array js) e h.1) ∙ array_kind h.0.form h.2 h.3
-kind_stands nodes source k x (object ms) e h = ap (λ (y : Node). kind_of_form y.form) (node_is nodes source k x h.0 (object ms) e h.1) ∙ object_kind h.0.form h.2 h.3
+-- a fact of each node at the place is one of the node that stands for the value
+pub kind_stands : (nodes : List Node) (source : List ℕ) (k : ℕ) (r : Kind) (j : Json) → ((x : Node) → slice_get nodes k ≡ Some x → r ≡ kind_of_form x.form) → StandsIn nodes source k j → r ≡ kind_of j
+kind_stands nodes source k r null e (n, i, f) = e n i.is ∙ ap kind_of_form f
+kind_stands nodes source k r (boolean b) e (n, i, f) = e n i.is ∙ ap kind_of_form f
+kind_stands nodes source k r (number s) e (n, i, f) = e n i.is ∙ ap kind_of_form f
+kind_stands nodes source k r (text s) e (n, i, f) = e n i.is ∙ text_kind n.form s f
+kind_stands nodes source k r (array js) e (n, i, ks, f, b, h) = e n i.is ∙ array_kind n.form ks f
+kind_stands nodes source k r (object ms) e (n, i, vs, f, b, h) = e n i.is ∙ object_kind n.form vs f
 
 -- where the node's source text lies
-pub record Lies (source : List ℕ) (x : Node) (j : Json) : Type 0 where
-  pub order : x.start ≤ x.end
-  pub inside : x.end ≤ length source
-  pub spells : take (x.end - x.start) (drop x.start source) ≡ compact j
+pub record Lies (source : List ℕ) (start end : ℕ) (j : Json) : Type 0 where
+  pub order : start ≤ end
+  pub inside : end ≤ length source
+  pub spells : take (end - start) (drop start source) ≡ compact j
   pub valid : AreTokens (tokens j)
 
-pub lies : (nodes : List Node) (source : List ℕ) (k : ℕ) (x : Node) (j : Json) → x ≡ get_or nodes k x → StandsIn nodes source k j → Lies source x j
-lies nodes source k x j e h =
+pub lies : (nodes : List Node) (source : List ℕ) (k start end : ℕ) (j : Json) → ((x : Node) → slice_get nodes k ≡ Some x → start ≡ x.start) → ((x : Node) → slice_get nodes k ≡ Some x → end ≡ x.end) → StandsIn nodes source k j → Lies source start end j
+lies nodes source k start end j a b h =
     let f = found nodes source k j h in
-    let P : Node → Type 0 = λ y. Lies source y j in
-    subst P (sym (node_is nodes source k x f.n j e f.node)) (record { order = f.node.begins; inside = f.node.ends; spells = f.node.spells; valid = f.node.valid })
+    let P : ℕ → Type 0 = λ x. Lies source x f.n.end j in
+    let Q : ℕ → Type 0 = λ x. Lies source start x j in
+    subst Q (sym (b f.n f.node.is)) (subst P (sym (a f.n f.node.is)) (record { order = f.node.begins; inside = f.node.ends; spells = f.node.spells; valid = f.node.valid }))
 
 utf8_along : (xs ys : List ℕ) → xs ≡ ys → IsUtf8 xs → IsUtf8 ys
 utf8_along xs ys e h = let P : List ℕ → Type 0 = λ x. IsUtf8 x in subst P e h
 
-pub text_utf8 : (source : List ℕ) (x : Node) (j : Json) (bytes : List ℕ) → Lies source x j → bytes ≡ take (x.end - x.start) (drop x.start source) → IsUtf8 bytes
-text_utf8 source x j bytes l e = utf8_along _ _ (sym (e ∙ l.spells)) (tokens_utf8 (tokens j) l.valid)
+pub text_utf8 : (source : List ℕ) (start end : ℕ) (j : Json) (bytes : List ℕ) → Lies source start end j → bytes ≡ take (end - start) (drop start source) → IsUtf8 bytes
+text_utf8 source start end j bytes l e = utf8_along _ _ (sym (e ∙ l.spells)) (tokens_utf8 (tokens j) l.valid)
 
 -- tokens without white space are a text of them
 pub laid_compact : (ts : List Token) → AreTokens ts → Laid ts (flat_map spelled ts)
@@ -118,42 +102,39 @@ laid_compact [] h = tt
 laid_compact (t ∷ ts) h = ([], flat_map spelled ts, tt, refl, h.0, laid_compact ts h.1)
 
 -- the source text reads as the value again
-pub text_again : (source : List ℕ) (x : Node) (j : Json) (bytes : List ℕ) → Lies source x j → bytes ≡ take (x.end - x.start) (drop x.start source) → (levels : ℕ) → IsWithin levels j → IsText levels bytes j
-text_again source x j bytes l e levels w = let P : List ℕ → Type 0 = λ y. Laid (tokens j) y in (w, subst P (sym (e ∙ l.spells)) (laid_compact (tokens j) l.valid))
+pub text_again : (source : List ℕ) (start end : ℕ) (j : Json) (bytes : List ℕ) → Lies source start end j → bytes ≡ take (end - start) (drop start source) → (levels : ℕ) → IsWithin levels j → IsText levels bytes j
+text_again source start end j bytes l e levels w = let P : List ℕ → Type 0 = λ y. Laid (tokens j) y in (w, subst P (sym (e ∙ l.spells)) (laid_compact (tokens j) l.valid))
 
 -- between the quotes of a text
-pub record Inner (source : List ℕ) (x : Node) (s : List ℕ) : Type 0 where
-  pub order : x.start + 1 ≤ x.end - 1
-  pub inside : x.end - 1 ≤ length source
-  pub chars : take (x.end - 1 - (x.start + 1)) (drop (x.start + 1) source) ≡ s
+pub record Inner (source : List ℕ) (start end : ℕ) (s : List ℕ) : Type 0 where
+  pub order : start + 1 ≤ end - 1
+  pub inside : end - 1 ≤ length source
+  pub chars : take (end - 1 - (start + 1)) (drop (start + 1) source) ≡ s
   pub valid : IsChars s
 
-pub inner : (source : List ℕ) (x : Node) (s : List ℕ) → Lies source x (text s) → Inner source x s
-inner source x s l =
-    let text_is : take (x.end - x.start) (drop x.start source) ≡ 34 ∷ (s ++ (34 ∷ [])) = l.spells ∙ append-nil (34 ∷ (s ++ (34 ∷ []))) in
+pub inner : (source : List ℕ) (start end : ℕ) (s : List ℕ) → Lies source start end (text s) → Inner source start end s
+inner source start end s l =
+    let text_is : take (end - start) (drop start source) ≡ 34 ∷ (s ++ (34 ∷ [])) = l.spells ∙ append-nil (34 ∷ (s ++ (34 ∷ []))) in
     let order = l.order in
     let within = l.inside in
-    let size : length (drop x.start source) ≡ length source - x.start = length-drop x.start source in
-    let len : length (take (x.end - x.start) (drop x.start source)) ≡ length s + 2 = ap length text_is ∙ (let n = length-append s (34 ∷ []) in omega arith) in
-    let count : x.end - x.start ≡ length s + 2 = let n = length-take-le (x.end - x.start) (drop x.start source) (omega arith) in omega arith in
-    let rest = drop (x.end - x.start) (drop x.start source) in
-    let whole : drop x.start source ≡ 34 ∷ (s ++ (34 ∷ rest)) = sym (take-append-drop (x.end - x.start) (drop x.start source)) ∙ (ap (λ y. y ++ rest) text_is ∙ ap (λ y. 34 ∷ y) (append_assoc s (34 ∷ []) rest)) in
-    let behind : drop (x.start + 1) source ≡ s ++ (34 ∷ rest) = sym (drop-drop 1 x.start source) ∙ ap (drop 1) whole in
+    let size : length (drop start source) ≡ length source - start = length-drop start source in
+    let len : length (take (end - start) (drop start source)) ≡ length s + 2 = ap length text_is ∙ (let n = length-append s (34 ∷ []) in omega arith) in
+    let count : end - start ≡ length s + 2 = let n = length-take-le (end - start) (drop start source) (omega arith) in omega arith in
+    let rest = drop (end - start) (drop start source) in
+    let whole : drop start source ≡ 34 ∷ (s ++ (34 ∷ rest)) = sym (take-append-drop (end - start) (drop start source)) ∙ (ap (λ y. y ++ rest) text_is ∙ ap (λ y. 34 ∷ y) (append_assoc s (34 ∷ []) rest)) in
+    let behind : drop (start + 1) source ≡ s ++ (34 ∷ rest) = sym (drop-drop 1 start source) ∙ ap (drop 1) whole in
     record {
       order = omega arith;
       inside = omega arith;
-      chars = ap (take (x.end - 1 - (x.start + 1))) behind ∙ take_at s (34 ∷ rest) (x.end - 1 - (x.start + 1)) (omega arith);
+      chars = ap (take (end - 1 - (start + 1))) behind ∙ take_at s (34 ∷ rest) (end - 1 - (start + 1)) (omega arith);
       valid = l.valid.0;
     }
 
-pub chars_text : (source : List ℕ) (x : Node) (s bytes : List ℕ) → Inner source x s → bytes ≡ take (x.end - 1 - (x.start + 1)) (drop (x.start + 1) source) → IsUtf8 bytes
-chars_text source x s bytes i e = utf8_along _ _ (sym (e ∙ i.chars)) (chars_utf8 s i.valid)
+pub chars_text : (source : List ℕ) (start end : ℕ) (s bytes : List ℕ) → Inner source start end s → bytes ≡ take (end - 1 - (start + 1)) (drop (start + 1) source) → IsUtf8 bytes
+chars_text source start end s bytes i e = utf8_along _ _ (sym (e ∙ i.chars)) (chars_utf8 s i.valid)
 
-content_of : (nodes : List Node) (source : List ℕ) (k : ℕ) (x : Node) (s : List ℕ) → x ≡ get_or nodes k x → StandsIn nodes source k (text s) → HasContent x.form s
-content_of nodes source k x s e h = let P : Node → Type 0 = λ y. HasContent y.form s in subst P (sym (node_is nodes source k x h.0 (text s) e h.1)) h.2
-
-pub plain_content : (nodes : List Node) (source : List ℕ) (k : ℕ) (x : Node) (s bytes : List ℕ) → x ≡ get_or nodes k x → StandsIn nodes source k (text s) → ((t : List ℕ) → x.form ≡ Escaped t → ⊥) → Inner source x s → bytes ≡ take (x.end - 1 - (x.start + 1)) (drop (x.start + 1) source) → bytes ≡ content s
-plain_content nodes source k x s bytes e h n i f = f ∙ (i.chars ∙ sym (plain x.form n (content_of nodes source k x s e h)))
+pub plain_content : (nodes : List Node) (source : List ℕ) (k start end : ℕ) (s bytes : List ℕ) → StandsIn nodes source k (text s) → ((x : Node) → slice_get nodes k ≡ Some x → (t : List ℕ) → x.form ≡ Escaped t → ⊥) → Inner source start end s → bytes ≡ take (end - 1 - (start + 1)) (drop (start + 1) source) → bytes ≡ content s
+plain_content nodes source k start end s bytes (n, i, c) e h f = f ∙ (h.chars ∙ sym (plain n.form (e n i.is) c))
   where
     plain : (g : Form) → ((t : List ℕ) → g ≡ Escaped t → ⊥) → HasContent g s → content s ≡ s
     plain Plain n h = h
@@ -164,11 +145,22 @@ plain_content nodes source k x s bytes e h n i f = f ∙ (i.chars ∙ sym (plain
     plain (Array v) n h = absurd h
     plain (Object v) n h = absurd h
 
-pub escaped_content : (nodes : List Node) (source : List ℕ) (k : ℕ) (x : Node) (s t : List ℕ) → x ≡ get_or nodes k x → StandsIn nodes source k (text s) → x.form ≡ Escaped t → t ≡ content s
-escaped_content nodes source k x s t e h f = let P : Form → Type 0 = λ g. HasContent g s in sym (subst P f (content_of nodes source k x s e h))
+pub escaped_content : (nodes : List Node) (source : List ℕ) (k : ℕ) (s t : List ℕ) → StandsIn nodes source k (text s) → ((x : Node) → slice_get nodes k ≡ Some x → x.form ≡ Escaped t) → t ≡ content s
+escaped_content nodes source k s t (n, i, c) e = let P : Form → Type 0 = λ g. HasContent g s in sym (subst P (e n i.is) c)
 
-pub number_text : (nodes : List Node) (source : List ℕ) (k : ℕ) (x : Node) (s bytes : List ℕ) → x ≡ get_or nodes k x → StandsIn nodes source k (number s) → bytes ≡ take (x.end - x.start) (drop x.start source) → bytes ≡ s
-number_text nodes source k x s bytes e h f = f ∙ ((lies nodes source k x (number s) e h).spells ∙ append-nil s)
+pub number_text : (source : List ℕ) (start end : ℕ) (s bytes : List ℕ) → Lies source start end (number s) → bytes ≡ take (end - start) (drop start source) → bytes ≡ s
+number_text source start end s bytes l f = f ∙ (l.spells ∙ append-nil s)
+
+-- what is said of an array's items holds of those that stand for its values
+pub items_stand : (nodes : List Node) (source : List ℕ) (k : ℕ) (us : List ℕ) (js : Items) → ((x : Node) → slice_get nodes k ≡ Some x → (ks : List ℕ) → items_of x.form ≡ Some ks → us ≡ ks) → StandsIn nodes source k (array js) → ItemsIn nodes source us js × All (λ c. c < k) us
+items_stand nodes source k us js e (n, i, ks, f, b, h) =
+    let P : List ℕ → Type 0 = λ x. ItemsIn nodes source x js × All (λ c. c < k) x in
+    subst P (sym (e n i.is ks f)) (h, b)
+
+pub members_stand : (nodes : List Node) (source : List ℕ) (k : ℕ) (us : List Member) (ms : Members) → ((x : Node) → slice_get nodes k ≡ Some x → (vs : List Member) → members_of x.form ≡ Some vs → us ≡ vs) → StandsIn nodes source k (object ms) → MembersIn nodes source us ms × All (λ m. m.node < k) us
+members_stand nodes source k us ms e (n, i, vs, f, b, h) =
+    let P : List Member → Type 0 = λ x. MembersIn nodes source x ms × All (λ m. m.node < k) x in
+    subst P (sym (e n i.is vs f)) (h, b)
 
 kind_at : (t : Tree) (k : ℕ) (j : Json) → Stands t k j → IsOfKind t k (kind_of j)
 kind_at t k null h = h
@@ -178,5 +170,5 @@ kind_at t k (text s) h = (s, h)
 kind_at t k (array js) h = (js, h)
 kind_at t k (object ms) h = (ms, h)
 
-pub kind_is : (t : Tree) (k : ℕ) (x : Node) (r : Kind) → HasNode t k → x ≡ get_or t.nodes.items k x → kind_of_form x.form ≡ r → IsOfKind t k r
-kind_is t k x r h e f = let P : Kind → Type 0 = λ y. IsOfKind t k y in subst P (sym (kind_stands t.nodes.items t.source.items k x h.0 e h.1) ∙ f) (kind_at t k h.0 h.1)
+pub kind_is : (t : Tree) (k : ℕ) (r : Kind) → HasNode t k → ((x : Node) → slice_get t.nodes k ≡ Some x → r ≡ kind_of_form x.form) → IsOfKind t k r
+kind_is t k r h e = let P : Kind → Type 0 = λ y. IsOfKind t k y in subst P (sym (kind_stands t.nodes t.source.items k r h.0 e h.1)) (kind_at t k h.0 h.1)

@@ -17,7 +17,7 @@ use Rattle.json_span.specs.Refusals.{Refuses}
 use Rattle.json_span.specs.Ahead.{Frame, in_array, in_object, join_items, join_members, AfterAt, Expect, FirstNameAt, NextNameAt, ColonAt}
 use Rattle.json_span.specs.Reading.{ReadsTo}
 use Rattle.json_span.specs.Tree.{IsRead, StandsIn, ItemsIn, MembersIn, IsNode, items_of, members_of}
-use Rattle.json_span.specs.Steps.{Adds, At, then_after, AtAny, AtValue, AtEnd, AtName, NamedTo, BehindItem, BehindMember, BehindOpen, AddsItem, PushesItem, Holds, HoldsOne, opened, listed, named, quote}
+use Rattle.json_span.specs.Steps.{Adds, At, then_after, WordStops, AtAny, AtValue, AtEnd, AtName, NamedTo, BehindItem, BehindMember, BehindOpen, AddsItem, PushesItem, Holds, HoldsOne, opened, listed, named, quote}
 use Rattle.json_token.specs.TokenEnds.{WordTo, WordFails, begins_number, Skips, QuotedTo, QuotedFails}
 use Rattle.json_span.specs.declared.tree.Node.{Node}
 use Rattle.json_span.specs.declared.tree.Member.{Member}
@@ -478,9 +478,21 @@ pub word_ok : (bytes : List ℕ) (place : ℕ) (nodes new : List Node) (source n
     → ((to k : ℕ) → WordTo bytes word place to → Adds nodes new source word form now k → AtEnd bytes to k new now opens) → IfOk q (λ x. At bytes x.0 x.1 new now opens)
 word_ok bytes place nodes new source now opens word form r q e h f = then_after_ok bytes new now opens r q (λ x. WordTo bytes word place x.1 × Adds nodes new source word form now x.0) e h (λ x y. f x.1 x.0 y.0 y.1)
 
-pub word_err : (bytes : List ℕ) (place : ℕ) (word : List ℕ) (r : Result (ℕ × ℕ) JsonNo) (q : Result (Next × ℕ) JsonNo) → q ≡ then_after r → IfErr r (WordFails bytes word place) → ((e : JsonNo) → WordFails bytes word place e → Refuses bytes e) → IfErr q (Refuses bytes)
+pub word_err : (bytes : List ℕ) (place : ℕ) (word : List ℕ) (r : Result (ℕ × ℕ) JsonNo) (q : Result (Next × ℕ) JsonNo) → q ≡ then_after r → IfErr r (WordStops bytes word place) → ((e : JsonNo) → WordFails bytes word place e → Refuses bytes e) → IfErr q (Refuses bytes)
 word_err bytes place word (Ok x) q e h f = then_after_err bytes (Ok x) q e tt
-word_err bytes place word (Err x) q e h f = then_after_err bytes (Err x) q e (f x h)
+word_err bytes place word (Err x) q e h f = then_after_err bytes (Err x) q e (stops x h)
+  where
+    stops : (y : JsonNo) → WordStops bytes word place y → Refuses bytes y
+    stops (BadByte at) w = f (BadByte at) w
+    stops Cut w = f Cut w
+    stops TooDeep w = absurd w
+    stops Want w = tt
+
+pub word_stops : (bytes word : List ℕ) (place : ℕ) (e : JsonNo) → WordFails bytes word place e → WordStops bytes word place e
+word_stops bytes word place (BadByte at) w = w
+word_stops bytes word place Cut w = w
+word_stops bytes word place TooDeep w = absurd w
+word_stops bytes word place Want w = tt
 
 -- ---- the end of an array that has just begun
 

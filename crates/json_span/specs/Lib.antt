@@ -7,3 +7,4 @@ pub mod Tree
 pub mod Steps
 pub mod Nodes
 pub mod Parts
+pub mod NodeList

@@ -9,15 +9,15 @@ use Rattle.json_span.specs.declared.tree.Kind.TheVariants.{Null, Bool as Flag, N
 
 -- the node stands for the value
 abbrev pub Stands : Tree → ℕ → Json → Type 0
-Stands t node j = StandsIn t.nodes.items t.source.items node j
+Stands t node j = StandsIn t.nodes t.source.items node j
 
 -- these nodes stand for the items, in order
 abbrev pub StandForItems : Tree → List ℕ → Items → Type 0
-StandForItems t nodes js = ItemsIn t.nodes.items t.source.items nodes js
+StandForItems t nodes js = ItemsIn t.nodes t.source.items nodes js
 
 -- these members have the names, and their nodes stand for the values, in order
 abbrev pub StandForMembers : Tree → List Member → Members → Type 0
-StandForMembers t members ms = MembersIn t.nodes.items t.source.items members ms
+StandForMembers t members ms = MembersIn t.nodes t.source.items members ms
 
 -- the tree has the node
 abbrev pub HasNode : Tree → ℕ → Type 0
@@ -29,7 +29,7 @@ root_of t = t.root
 
 -- the tree is that of the text
 abbrev pub IsTreeOf : List ℕ → Tree → Type 0
-IsTreeOf bytes t = IsRead bytes t.nodes.items t.source.items t.root
+IsTreeOf bytes t = IsRead bytes t.nodes t.source.items t.root
 
 -- what a value is
 abbrev pub kind_of : Json → Kind

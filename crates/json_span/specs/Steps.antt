@@ -1,10 +1,12 @@
 -- Where the reader of a JSON text stands between two bytes: what was read, and what the open arrays and objects hold.
 -- Only private clauses cite it.
-use Rattle.std.specs.Prelude.{◌≡◌, ℕ, ◌+◌, ◌<◌, ◌≤◌, List, [], ◌∷◌, ◌++◌, length, Bool, true, false, Option, Some, None, Result, Ok, Err, ◌⊎◌}
+use Rattle.std.specs.Prelude.{◌≡◌, ℕ, ◌+◌, ◌<◌, ◌≤◌, List, [], ◌∷◌, ◌++◌, length, Bool, true, false, Option, Some, None, Result, Ok, Err, ◌⊎◌, ⊤}
 use Rattle.json_span.specs.Json.{Json, Items, Members, no_items, item, no_members, member}
 use Rattle.json_span.specs.Text.{compact}
+use Rattle.json_token.specs.TokenEnds.{WordFails}
 use Rattle.json_token.specs.Chars.{content, IsChars}
 use Rattle.json_token.specs.declared.error.JsonNo.{JsonNo}
+use Rattle.json_token.specs.declared.error.JsonNo.TheVariants.{BadByte, Cut, TooDeep, Want}
 use Rattle.json_span.specs.Ahead.{Frame, in_array, in_object, join_items, join_members, Expect, AfterAt, FirstNameAt, NextNameAt}
 use Rattle.json_span.specs.Reading.{ReadsTo}
 use Rattle.json_span.specs.Tree.{StandsIn, ItemsIn, MembersIn}
@@ -70,6 +72,13 @@ pub record AtEnd (bytes : List ℕ) (place node : ℕ) (nodes : List Node) (sour
 abbrev pub At : List ℕ → Next → ℕ → List Node → List ℕ → List Open → Type 0
 At bytes (Value first) place nodes source opens = AtValue bytes place first nodes source opens
 At bytes (After node) place nodes source opens = AtEnd bytes place node nodes source opens
+
+-- out of memory, or the word doesn't stand at the place
+abbrev pub WordStops : List ℕ → List ℕ → ℕ → JsonNo → Type 0
+WordStops bytes word from (BadByte place) = WordFails bytes word from (BadByte place)
+WordStops bytes word from Cut = WordFails bytes word from Cut
+WordStops bytes word from TooDeep = ⊥
+WordStops bytes word from Want = ⊤
 
 -- a value comes next, or perhaps the end of an array
 pub record AtAny (bytes : List ℕ) (place : ℕ) (nodes : List Node) (source : List ℕ) (opens : List Open) : Type 0 where

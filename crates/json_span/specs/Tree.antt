@@ -29,7 +29,7 @@ HasContent (Array v) s = ⊥
 HasContent (Object v) s = ⊥
 
 abbrev pub items_of : Form → Option (List ℕ)
-items_of (Array v) = Some v.items
+items_of (Array ks) = Some ks
 items_of Null = None
 items_of (Flag b) = None
 items_of Number = None
@@ -38,7 +38,7 @@ items_of (Escaped t) = None
 items_of (Object v) = None
 
 abbrev pub members_of : Form → Option (List Member)
-members_of (Object v) = Some v.items
+members_of (Object vs) = Some vs
 members_of Null = None
 members_of (Flag b) = None
 members_of Number = None

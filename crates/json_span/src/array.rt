@@ -4,9 +4,9 @@ ghost use Rattle.json_span.specs.Steps.{At, AtAny, AtValue, BehindItem, AddsItem
 ghost use Rattle.json_span.specs.Refusals.{Refuses};
 ghost use Rattle.json_span.specs.declared.tree.Node.{Node};
 
-use crate::source::{close, push_byte, push_open};
+use crate::source::{array_of, close, push_byte, push_open};
 use crate::state::{MAX_LEVELS, Next, Open};
-use crate::tree::{Form, Tree};
+use crate::tree::Tree;
 use json_token::{JsonNo, skip_blanks};
 use std::alloc::Global;
 
@@ -101,10 +101,10 @@ pub(crate) fn after_item(
     tree: &mut Tree,
     opens: &mut Vec<Open>,
 ) -> Result<(Next, usize), JsonNo>
-    requires { BehindItem bytes.now place start items.items tree.old.nodes.items
+    requires { BehindItem bytes.now place start items.items tree.old.nodes
         tree.old.source.items opens.old.items }
     ensures ok { IfOk result (λ r. At bytes.now r.0 r.1
-        tree.new.nodes.items tree.new.source.items opens.new.items) }
+        tree.new.nodes tree.new.source.items opens.new.items) }
     ensures further { IfOk result (λ r. place < r.1) }
     ensures err { IfErr result (Refuses bytes.now) }
 {
@@ -124,7 +124,7 @@ pub(crate) fn after_item(
     if bytes[at] != 93 {
         return Err(JsonNo::BadByte(at));
     }
-    match close(93, start, Form::Array(items), tree) {
+    match close(93, start, array_of(items), tree) {
         Ok(node) => Ok((Next::After(node), at + 1)),
         Err(_) => Err(JsonNo::Want),
     }
@@ -139,14 +139,14 @@ pub(crate) fn empty_array(
 ) -> Result<(Next, usize), JsonNo>
     requires inside { place < length bytes.now }
     requires bracket { get_or bytes.now place 0 ≡ 93 }
-    requires at { AtValue bytes.now place true tree.old.nodes.items tree.old.source.items opens.old.items }
+    requires at { AtValue bytes.now place true tree.old.nodes tree.old.source.items opens.old.items }
     ensures ok { IfOk result (λ r. At bytes.now r.0 r.1
-        tree.new.nodes.items tree.new.source.items opens.new.items) }
+        tree.new.nodes tree.new.source.items opens.new.items) }
     ensures further { IfOk result (λ r. place < r.1) }
     ensures err { IfErr result (Refuses bytes.now) }
 {
     match opens.pop() {
-        Some(Open::InArray(start, items)) => match close(93, start, Form::Array(items), tree) {
+        Some(Open::InArray(start, items)) => match close(93, start, array_of(items), tree) {
             Ok(node) => Ok((Next::After(node), place + 1)),
             Err(e) => Err(e),
         },

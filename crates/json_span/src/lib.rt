@@ -2,12 +2,15 @@
 #![tactic(auto)]
 
 mod array;
+mod beside;
 mod format;
 mod lookup;
+mod node_list;
 mod object;
 mod parts;
 mod reader;
 mod scalar;
+mod small;
 mod source;
 mod state;
 mod tree;

@@ -5,7 +5,7 @@ ghost use Rattle.json_token.specs.Integer.{integer_of};
 ghost use Rattle.json_span.specs.Text.{compact, IsText};
 ghost use Rattle.json_span.specs.Nodes.{Stands, StandForItems, StandForMembers, HasNode, root_of, kind_of, IsOfKind};
 
-use crate::tree::{Form, Kind, Member, Tree};
+use crate::tree::{Kind, Member, Tree};
 use json_token::integer_of;
 
 fn part(source: &Vec<u8>, start: usize, end: usize) -> &[u8]
@@ -30,15 +30,7 @@ impl Tree {
         ensures value { (j : Json) → Stands self.now node j → result ≡ kind_of j }
         ensures is { IsOfKind self.now node result }
     {
-        match &self.nodes[node as usize].form {
-            Form::Null => Kind::Null,
-            Form::Bool(value) => Kind::Bool(*value),
-            Form::Number => Kind::Number,
-            Form::Plain => Kind::Text,
-            Form::Escaped(_) => Kind::Text,
-            Form::Array(_) => Kind::Array,
-            Form::Object(_) => Kind::Object,
-        }
+        self.nodes.kind(node)
     }
 
     /// The members of a node that is an object, in the order of the text, repeats included. No memory is taken.
@@ -47,10 +39,7 @@ impl Tree {
         ensures value { (ms : Members) → Stands self.now node (object ms) → StandForMembers self.now result.now ms }
         ensures below { All (λ m. m.node < node) result.now }
     {
-        match &self.nodes[node as usize].form {
-            Form::Object(members) => members.as_slice(),
-            _ => &[],
-        }
+        self.nodes.members(node)
     }
 
     /// The nodes of the items of a node that is an array, in the order of the text. No memory is taken.
@@ -59,10 +48,7 @@ impl Tree {
         ensures value { (js : Items) → Stands self.now node (array js) → StandForItems self.now result.now js }
         ensures below { All (λ item. item < node) result.now }
     {
-        match &self.nodes[node as usize].form {
-            Form::Array(items) => items.as_slice(),
-            _ => &[],
-        }
+        self.nodes.items(node)
     }
 
     /// The node's source text without white space between tokens: numbers, texts and names as they were spelled.
@@ -73,8 +59,7 @@ impl Tree {
         ensures again { (j : Json) → Stands self.now node j → (levels : ℕ) → IsWithin levels j
             → IsText levels result.now j }
     {
-        let found = &self.nodes[node as usize];
-        let bytes = part(&self.source, found.start, found.end);
+        let bytes = part(&self.source, self.nodes.start(node), self.nodes.end(node));
         unsafe { std::str::from_utf8_unchecked(bytes) }
     }
 
@@ -83,11 +68,12 @@ impl Tree {
         requires { (s : List ℕ) × Stands self.now node (text s) }
         ensures { (s : List ℕ) → Stands self.now node (text s) → result.now ≡ content s }
     {
-        let found = &self.nodes[node as usize];
-        match &found.form {
-            Form::Escaped(text) => text.as_str(),
-            _ => {
-                let bytes = part(&self.source, found.start + 1, found.end - 1);
+        match self.nodes.escaped(node) {
+            Some(text) => text,
+            None => {
+                let start = self.nodes.start(node);
+                let end = self.nodes.end(node);
+                let bytes = part(&self.source, start + 1, end - 1);
                 unsafe { std::str::from_utf8_unchecked(bytes) }
             }
         }
@@ -98,7 +84,6 @@ impl Tree {
         requires { (s : List ℕ) × Stands self.now node (number s) }
         ensures { (s : List ℕ) → Stands self.now node (number s) → result ≡ integer_of s }
     {
-        let found = &self.nodes[node as usize];
-        integer_of(part(&self.source, found.start, found.end))
+        integer_of(part(&self.source, self.nodes.start(node), self.nodes.end(node)))
     }
 }

@@ -6,9 +6,9 @@ ghost use Rattle.json_span.specs.Ahead.{Frame};
 ghost use Rattle.json_span.specs.Json.{Members};
 ghost use Rattle.json_span.specs.Refusals.{Refuses};
 
-use crate::source::{close, push_byte, push_bytes, push_open};
+use crate::source::{close, object_of, push_byte, push_bytes, push_open};
 use crate::state::{MAX_LEVELS, Next, Open};
-use crate::tree::{Form, Member, Tree};
+use crate::tree::{Member, Tree};
 use gate_io::Text;
 use json_token::{JsonNo, skip_blanks, string_end, unescape};
 use std::alloc::Global;
@@ -77,9 +77,9 @@ pub(crate) fn begin_object(
 ) -> Result<(Next, usize), JsonNo>
     requires inside { place < length bytes.now }
     requires brace { get_or bytes.now place 0 ≡ 123 }
-    requires at { AtAny bytes.now place tree.old.nodes.items tree.old.source.items opens.old.items }
+    requires at { AtAny bytes.now place tree.old.nodes tree.old.source.items opens.old.items }
     ensures ok { IfOk result (λ r. At bytes.now r.0 r.1
-        tree.new.nodes.items tree.new.source.items opens.new.items) }
+        tree.new.nodes tree.new.source.items opens.new.items) }
     ensures further { IfOk result (λ r. place < r.1) }
     ensures err { IfErr result (Refuses bytes.now) }
 {
@@ -109,7 +109,7 @@ pub(crate) fn begin_object(
     if bytes[at] != 125 {
         return Err(JsonNo::BadByte(at));
     }
-    match close(125, start, Form::Object(Vec::new(alloc)), tree) {
+    match close(125, start, object_of(Vec::new(alloc)), tree) {
         Ok(node) => Ok((Next::After(node), at + 1)),
         Err(_) => Err(JsonNo::Want),
     }
@@ -125,10 +125,10 @@ pub(crate) fn after_member(
     tree: &mut Tree,
     opens: &mut Vec<Open>,
 ) -> Result<(Next, usize), JsonNo>
-    requires { BehindMember bytes.now place start members.items tree.old.nodes.items
+    requires { BehindMember bytes.now place start members.items tree.old.nodes
         tree.old.source.items opens.old.items }
     ensures ok { IfOk result (λ r. At bytes.now r.0 r.1
-        tree.new.nodes.items tree.new.source.items opens.new.items) }
+        tree.new.nodes tree.new.source.items opens.new.items) }
     ensures further { IfOk result (λ r. place < r.1) }
     ensures err { IfErr result (Refuses bytes.now) }
 {
@@ -142,7 +142,7 @@ pub(crate) fn after_member(
     if bytes[at] != 125 {
         return Err(JsonNo::BadByte(at));
     }
-    match close(125, start, Form::Object(members), tree) {
+    match close(125, start, object_of(members), tree) {
         Ok(node) => Ok((Next::After(node), at + 1)),
         Err(_) => Err(JsonNo::Want),
     }
@@ -160,10 +160,10 @@ fn next_member(
 ) -> Result<(Next, usize), JsonNo>
     requires inside { place < length bytes.now }
     requires comma { get_or bytes.now place 0 ≡ 44 }
-    requires at { BehindMember bytes.now place start members.items tree.old.nodes.items
+    requires at { BehindMember bytes.now place start members.items tree.old.nodes
         tree.old.source.items opens.old.items }
     ensures ok { IfOk result (λ r. At bytes.now r.0 r.1
-        tree.new.nodes.items tree.new.source.items opens.new.items) }
+        tree.new.nodes tree.new.source.items opens.new.items) }
     ensures further { IfOk result (λ r. place < r.1) }
     ensures err { IfErr result (Refuses bytes.now) }
 {

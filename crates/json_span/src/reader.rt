@@ -9,6 +9,7 @@ ghost use Rattle.json_span.specs.Refusals.{Refuses, max_levels};
 ghost use Rattle.json_span.specs.Nodes.{IsTreeOf};
 
 use crate::array::{after_item, begin_array, empty_array, next_item};
+use crate::node_list::NodeList;
 use crate::object::{after_member, begin_object};
 use crate::scalar::{number_value, text_value, word_value};
 use crate::state::{Next, Open};
@@ -25,11 +26,11 @@ fn value_at(
     opens: &mut Vec<Open>,
 ) -> Result<(Next, usize), JsonNo>
     requires inside { place < length bytes.now }
-    requires at { AtAny bytes.now place tree.old.nodes.items tree.old.source.items opens.old.items }
+    requires at { AtAny bytes.now place tree.old.nodes tree.old.source.items opens.old.items }
     requires blank { is_blank (get_or bytes.now place 0) ≡ false }
     requires open { get_or bytes.now place 0 ≡ 93 → ⊥ }
     ensures ok { IfOk result (λ r. At bytes.now r.0 r.1
-        tree.new.nodes.items tree.new.source.items opens.new.items) }
+        tree.new.nodes tree.new.source.items opens.new.items) }
     ensures further { IfOk result (λ r. place < r.1) }
     ensures err { IfErr result (Refuses bytes.now) }
 {
@@ -80,9 +81,9 @@ fn value(
     tree: &mut Tree,
     opens: &mut Vec<Open>,
 ) -> Result<(Next, usize), JsonNo>
-    requires { AtValue bytes.now place first tree.old.nodes.items tree.old.source.items opens.old.items }
+    requires { AtValue bytes.now place first tree.old.nodes tree.old.source.items opens.old.items }
     ensures ok { IfOk result (λ r. At bytes.now r.0 r.1
-        tree.new.nodes.items tree.new.source.items opens.new.items) }
+        tree.new.nodes tree.new.source.items opens.new.items) }
     ensures further { IfOk result (λ r. place < r.1) }
     ensures err { IfErr result (Refuses bytes.now) }
 {
@@ -109,9 +110,9 @@ fn behind(
     tree: &mut Tree,
     opens: &mut Vec<Open>,
 ) -> Result<(Next, usize), JsonNo>
-    requires { BehindOpen bytes.now place node tree.old.nodes.items tree.old.source.items opens.old.items top }
+    requires { BehindOpen bytes.now place node tree.old.nodes tree.old.source.items opens.old.items top }
     ensures ok { IfOk result (λ r. At bytes.now r.0 r.1
-        tree.new.nodes.items tree.new.source.items opens.new.items) }
+        tree.new.nodes tree.new.source.items opens.new.items) }
     ensures further { IfOk result (λ r. place < r.1) }
     ensures err { IfErr result (Refuses bytes.now) }
 {
@@ -151,7 +152,7 @@ fn read_text(alloc: Global, bytes: &[u8]) -> Result<Tree, JsonNo>
         return Err(JsonNo::Want);
     };
     let mut tree = Tree {
-        nodes: Vec::new(alloc),
+        nodes: NodeList::new(alloc),
         source,
         root: 0,
     };

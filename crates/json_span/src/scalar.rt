@@ -1,7 +1,7 @@
 ghost use Rattle.std.specs.Prelude.{◌≡◌, ◌<◌, ◌≤◌, List, length};
 ghost use Rattle.std.specs.Prelude.{get_or, IfOk, IfErr, true, false};
-ghost use Rattle.json_span.specs.Steps.{AtAny, AtEnd, Adds};
-ghost use Rattle.json_token.specs.TokenEnds.{begins_number, WordTo, WordFails};
+ghost use Rattle.json_span.specs.Steps.{AtAny, AtEnd, Adds, WordStops};
+ghost use Rattle.json_token.specs.TokenEnds.{begins_number, WordTo};
 ghost use Rattle.json_token.specs.Chars.{IsChars, has_backslash};
 ghost use Rattle.json_span.specs.Tree.{HasContent};
 ghost use Rattle.json_span.specs.Refusals.{Refuses};
@@ -21,9 +21,9 @@ pub(crate) fn word_value(
     tree: &mut Tree,
 ) -> Result<(u32, usize), JsonNo>
     requires { place ≤ length bytes.now }
-    ensures ok { IfOk result (λ r. WordTo bytes.now word.now place r.1 × Adds tree.old.nodes.items
-        tree.new.nodes.items tree.old.source.items word.now form tree.new.source.items r.0) }
-    ensures err { IfErr result (WordFails bytes.now word.now place) }
+    ensures ok { IfOk result (λ r. WordTo bytes.now word.now place r.1 × Adds tree.old.nodes
+        tree.new.nodes tree.old.source.items word.now form tree.new.source.items r.0) }
+    ensures err { IfErr result (WordStops bytes.now word.now place) }
 {
     let end = match word_end(bytes, place, word) {
         Ok(end) => end,
@@ -44,11 +44,11 @@ pub(crate) fn number_value(
     requires inside { place < length bytes.now }
     requires begins { begins_number (get_or bytes.now place 0) ≡ true }
     ensures ok { IfOk result (λ r. (opens : List Open)
-        → AtAny bytes.now place tree.old.nodes.items tree.old.source.items opens
-        → AtEnd bytes.now r.1 r.0 tree.new.nodes.items tree.new.source.items opens) }
+        → AtAny bytes.now place tree.old.nodes tree.old.source.items opens
+        → AtEnd bytes.now r.1 r.0 tree.new.nodes tree.new.source.items opens) }
     ensures further { IfOk result (λ r. place < r.1) }
     ensures err { IfErr result (λ e. (opens : List Open)
-        → AtAny bytes.now place tree.old.nodes.items tree.old.source.items opens
+        → AtAny bytes.now place tree.old.nodes tree.old.source.items opens
         → Refuses bytes.now e) }
 {
     let end = match numeral_end(bytes, place) {
@@ -88,11 +88,11 @@ pub(crate) fn text_value(
     requires inside { place < length bytes.now }
     requires quote { get_or bytes.now place 0 ≡ 34 }
     ensures ok { IfOk result (λ r. (opens : List Open)
-        → AtAny bytes.now place tree.old.nodes.items tree.old.source.items opens
-        → AtEnd bytes.now r.1 r.0 tree.new.nodes.items tree.new.source.items opens) }
+        → AtAny bytes.now place tree.old.nodes tree.old.source.items opens
+        → AtEnd bytes.now r.1 r.0 tree.new.nodes tree.new.source.items opens) }
     ensures further { IfOk result (λ r. place < r.1) }
     ensures err { IfErr result (λ e. (opens : List Open)
-        → AtAny bytes.now place tree.old.nodes.items tree.old.source.items opens
+        → AtAny bytes.now place tree.old.nodes tree.old.source.items opens
         → Refuses bytes.now e) }
 {
     let (end, escapes) = match string_end(bytes, place) {

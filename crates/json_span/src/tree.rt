@@ -1,6 +1,7 @@
 ghost use Rattle.std.specs.Prelude.{◌≡◌, ◌+◌, ◌≤◌, ◌++◌, [], ◌∷◌, length, IfOk, IfErr};
 
-use gate_io::Text;
+use crate::node_list::NodeList;
+use gate_io::{Items, Text};
 use json_token::JsonNo;
 
 /// What a node is: the values of RFC 8259, section 3.
@@ -28,7 +29,7 @@ pub struct Member {
     pub node: u32,
 }
 
-/// What a node keeps besides its source text. A text without escapes is its source text between the quotes.
+/// What a node has besides its source text. A text without escapes is its source text between the quotes.
 #[derive(Debug, Drop)]
 pub(crate) enum Form {
     Null,
@@ -36,11 +37,11 @@ pub(crate) enum Form {
     Number,
     Plain,
     Escaped(Text),
-    Array(Vec<u32>),
-    Object(Vec<Member>),
+    Array(Items<u32>),
+    Object(Items<Member>),
 }
 
-/// A value: where its source text begins and ends in the tree's text.
+/// A value: where its source text begins and ends in the tree's text, and its form. `NodeList` keeps it in fewer bytes.
 #[derive(Debug, Drop)]
 pub(crate) struct Node {
     pub(crate) start: usize,
@@ -52,7 +53,7 @@ pub(crate) struct Node {
 /// node of the tree that gave it alone.
 #[derive(Debug, Drop)]
 pub struct Tree {
-    pub(crate) nodes: Vec<Node>,
+    pub(crate) nodes: NodeList,
     pub(crate) source: Vec<u8>,
     pub(crate) root: u32,
 }
@@ -61,8 +62,8 @@ impl Tree {
     /// Makes a node whose source text begins at `start` and ends with the text so far.
     pub(crate) fn add(&mut self, start: usize, form: Form) -> Result<u32, JsonNo>
         ensures source { self.new.source.items ≡ self.old.source.items }
-        ensures ok { IfOk result (λ k. (k ≡ length self.old.nodes.items) × (self.new.nodes.items
-            ≡ self.old.nodes.items ++ (record { start = start; end = length self.old.source.items; form = form } ∷ []))) }
+        ensures ok { IfOk result (λ k. (k ≡ length self.old.nodes) × (self.new.nodes
+            ≡ self.old.nodes ++ (record { start = start; end = length self.old.source.items; form = form } ∷ []))) }
         ensures want { IfErr result (λ e. e ≡ JsonNo.Want) }
     {
         let Ok(node) = u32::try_from(self.nodes.len()) else {

@@ -1,5 +1,5 @@
 -- Where white space, a string, a number or a word that begins at a place ends, or why none stands there.
-use Rattle.std.specs.Prelude.{◌≡◌, ℕ, suc, ◌+◌, ◌<◌, ◌≤◌, List, ◌∷◌, ◌++◌, length, drop, get_or, Bool, true, false, ◌||◌, ◌==◌, None, ⊤}
+use Rattle.std.specs.Prelude.{◌≡◌, ℕ, suc, ◌+◌, ◌<◌, ◌≤◌, List, ◌∷◌, ◌++◌, length, drop, get_or, Bool, true, false, ◌||◌, ◌==◌, None}
 use Rattle.json_token.specs.Tokens.{AreBlank, is_blank}
 use Rattle.json_token.specs.Chars.{IsChars, next_inside}
 use Rattle.json_token.specs.Chars as chars
@@ -52,7 +52,7 @@ abbrev pub QuotedFails : List ℕ → ℕ → JsonNo → Type 0
 QuotedFails bytes from (BadByte place) = QuotedBreaks bytes from place
 QuotedFails bytes from Cut = QuotedCut bytes from
 QuotedFails bytes from TooDeep = ⊥
-QuotedFails bytes from Want = ⊤
+QuotedFails bytes from Want = ⊥
 
 -- the first byte of a number
 abbrev pub begins_number : ℕ → Bool
@@ -98,7 +98,7 @@ abbrev pub NumberFails : List ℕ → ℕ → JsonNo → Type 0
 NumberFails bytes from (BadByte place) = NumberBreaks bytes from place
 NumberFails bytes from Cut = NumberCut bytes from
 NumberFails bytes from TooDeep = ⊥
-NumberFails bytes from Want = ⊤
+NumberFails bytes from Want = ⊥
 
 -- the word stands at the place
 pub record WordTo (bytes word : List ℕ) (from to : ℕ) : Type 0 where
@@ -129,4 +129,4 @@ abbrev pub WordFails : List ℕ → List ℕ → ℕ → JsonNo → Type 0
 WordFails bytes word from (BadByte place) = WordBreaks bytes word from place
 WordFails bytes word from Cut = WordCut bytes word from
 WordFails bytes word from TooDeep = ⊥
-WordFails bytes word from Want = ⊤
+WordFails bytes word from Want = ⊥

@@ -1,4 +1,4 @@
-use Rattle.std.proofs.Common.{arith, refl}
+use Rattle.std.proofs.Common.{arith}
 use Rattle.json_span.proofs.Turns as turns
 use Rattle.json_span.proofs.array.after_item.Goals as goal
 
@@ -12,4 +12,4 @@ pub returns-then-bytes-at-ne93-clause-err : goal.returns-then-bytes-at-ne93-clau
 returns-then-bytes-at-ne93-clause-err c = let s = c.skip_blanks-at.ensures in turns.item_breaks _ _ _ _ _ _ _ _ c.requires s (omega (arith, s.inside)) c.if-bytes-at-eq44.false c.if-bytes-at-ne93.true
 
 pub returns-in-Ok-close-clause-ok : goal.returns-in-Ok-close-clause-ok
-returns-in-Ok-close-clause-ok c = let s = c.skip_blanks-at.ensures in turns.array_closes _ _ _ _ _ _ _ _ _ _ _ _ c.requires s (omega (arith, s.inside)) (omega arith) c.in-Ok-close.ensures.source c.in-Ok-close.ensures.ok.1 c.in-Ok-close.ensures.ok.0 refl
+returns-in-Ok-close-clause-ok c = let s = c.skip_blanks-at.ensures in turns.array_closes _ _ _ _ _ _ _ _ _ _ _ _ c.requires s (omega (arith, s.inside)) (omega arith) c.in-Ok-close.ensures.source c.in-Ok-close.ensures.ok.1 c.in-Ok-close.ensures.ok.0 c.array_of.ensures

@@ -1,4 +1,4 @@
-use Rattle.std.proofs.Common.{arith, refl}
+use Rattle.std.proofs.Common.{arith}
 use Rattle.json_span.proofs.Turns as turns
 use Rattle.json_span.proofs.object.after_member.Goals as goal
 
@@ -12,4 +12,4 @@ pub returns-then-bytes-at-ne125-clause-err : goal.returns-then-bytes-at-ne125-cl
 returns-then-bytes-at-ne125-clause-err c = let s = c.skip_blanks-at.ensures in turns.member_breaks _ _ _ _ _ _ _ _ c.requires s (omega (arith, s.inside)) c.if-bytes-at-eq44.false c.if-bytes-at-ne125.true
 
 pub returns-in-Ok-clause-ok : goal.returns-in-Ok-clause-ok
-returns-in-Ok-clause-ok c = let s = c.skip_blanks-at.ensures in turns.object_closes _ _ _ _ _ _ _ _ _ _ _ _ c.requires s (omega (arith, s.inside)) (omega arith) c.in-Ok.ensures.source c.in-Ok.ensures.ok.1 c.in-Ok.ensures.ok.0 refl
+returns-in-Ok-clause-ok c = let s = c.skip_blanks-at.ensures in turns.object_closes _ _ _ _ _ _ _ _ _ _ _ _ c.requires s (omega (arith, s.inside)) (omega arith) c.in-Ok.ensures.source c.in-Ok.ensures.ok.1 c.in-Ok.ensures.ok.0 c.object_of.ensures

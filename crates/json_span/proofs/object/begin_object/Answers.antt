@@ -1,4 +1,4 @@
-use Rattle.std.proofs.Common.{arith, ap, Some}
+use Rattle.std.proofs.Common.{arith, ap, ◌∙◌, Some}
 use Rattle.json_span.proofs.Turns as turns
 use Rattle.json_span.proofs.object.begin_object.Goals as goal
 
@@ -18,4 +18,4 @@ pub returns-then-bytes-at-ne125-clause-err : goal.returns-then-bytes-at-ne125-cl
 returns-then-bytes-at-ne125-clause-err c = let s = c.skip_blanks-at.ensures in turns.object_breaks _ _ _ _ _ _ c.requires.at c.requires.inside c.requires.brace (omega arith) s (omega (arith, s.inside)) c.if-bytes-at-eq34.false c.if-bytes-at-ne125.true
 
 pub returns-in-Ok-close-clause-ok : goal.returns-in-Ok-close-clause-ok
-returns-in-Ok-close-clause-ok c = let s = c.skip_blanks-at.ensures in turns.empty_object _ _ _ _ _ _ _ _ _ _ _ _ c.requires.at c.requires.inside c.requires.brace (omega arith) s (omega (arith, s.inside)) (omega arith) c.in_default.ensures.ok c.in-Ok-close.ensures.source (omega arith) c.in-Ok-close.ensures.ok.1 c.in-Ok-close.ensures.ok.0 (ap Some c.new-2.ensures.items)
+returns-in-Ok-close-clause-ok c = let s = c.skip_blanks-at.ensures in turns.empty_object _ _ _ _ _ _ _ _ _ _ _ _ c.requires.at c.requires.inside c.requires.brace (omega arith) s (omega (arith, s.inside)) (omega arith) c.in_default.ensures.ok c.in-Ok-close.ensures.source (omega arith) c.in-Ok-close.ensures.ok.1 c.in-Ok-close.ensures.ok.0 (c.object_of.ensures ∙ ap Some c.new-2.ensures.items)

@@ -15,5 +15,5 @@ returns-then-not-first-clause-err c = let s = c.skip_blanks-at.ensures in turns.
 
 pub empty_array-requires-clause-at : goal.empty_array-requires-clause-at
 empty_array-requires-clause-at c =
-    let P : Bool → Type 0 = λ f. AtValue c.args.bytes.now c.skip_blanks-at.result f c.args.tree.now.nodes.items c.args.tree.now.source.items c.args.opens.now.items in
+    let P : Bool → Type 0 = λ f. AtValue c.args.bytes.now c.skip_blanks-at.result f c.args.tree.now.nodes c.args.tree.now.source.items c.args.opens.now.items in
     subst P c.if-not-first.false (turns.value_moves _ _ _ _ _ _ _ c.requires c.skip_blanks-at.ensures)
