@@ -96,12 +96,12 @@ batch_is bytes summed records sum count rows is fields behind read =
     batch_counted (reading 0 bytes) (the_fields (pos 0) (pos 2) sum summed 0 (pos count)) fields (no_fault sum count summed is) (not_below count)
     ∙ ap (λ l. named (records_at count (pos 0) (pos 0) (reading 61 l))) behind ∙ ap named read
 
-none_behind : (n place : ℕ) → batches_at n (reading place []) ≡ Ok []
+pub none_behind : (n place : ℕ) → batches_at n (reading place []) ≡ Ok []
 none_behind zero place = refl
 none_behind (suc n) place = refl
 
 -- one batch and nothing behind it
-one_batch : (n : ℕ) (bytes : List ℕ) (rows : List Stored) → 0 < n → frame_at (reading 0 bytes) ≡ Ok (Some (length bytes)) → batch_at (reading 0 bytes) ≡ Ok rows
+pub one_batch : (n : ℕ) (bytes : List ℕ) (rows : List Stored) → 0 < n → frame_at (reading 0 bytes) ≡ Ok (Some (length bytes)) → batch_at (reading 0 bytes) ≡ Ok rows
     → batches_at n (reading 0 bytes) ≡ Ok rows
 one_batch zero bytes rows some framed read = absurd (omega arith)
 one_batch (suc n) bytes rows some framed read =

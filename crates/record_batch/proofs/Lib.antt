@@ -8,3 +8,5 @@ pub mod RoundTrip
 pub mod BatchTrip
 pub mod OffsetLaws
 mod Moving
+mod FirstLemmas
+mod OneBatchLemmas

@@ -4,3 +4,4 @@ pub mod Seen
 pub mod Batch
 pub mod Written
 pub mod Moved
+pub mod First

@@ -5,6 +5,8 @@ ghost use Rattle.record_batch.specs.declared.fault.BatchFault.TheVariants.{Want}
 ghost use Rattle.record_batch.specs.Batch.{Adds, HasRows, IsFramed, added, batch_at, batches_of, fault_of, fields_of, frame_at, named, rows_from, rows_of};
 ghost use Rattle.record_batch.specs.Record.{records_at};
 ghost use Rattle.record_batch.specs.Seen.{fields_seen, seen};
+ghost use Rattle.record_batch.specs.First.{Counts};
+ghost use Rattle.wire_prim.specs.Behind.{int64_at};
 
 use crate::fault::BatchFault;
 use crate::record::{Row, record};
@@ -104,8 +106,8 @@ fn take_records(
     }
 }
 
-// The next batch, none where the bytes end inside it, or the place of a length that is too small.
-fn next_batch<'a>(cursor: &mut Cursor<'a>) -> Result<Option<Cursor<'a>>, usize>
+/// The next batch, none where the bytes end inside it, or the place of a length that is too small.
+pub fn next_batch<'a>(cursor: &mut Cursor<'a>) -> Result<Option<Cursor<'a>>, usize>
     ensures { IsFramed result (frame_at cursor.old) cursor.old cursor.new }
 {
     let mut ahead = cursor.copy();
@@ -125,16 +127,12 @@ fn next_batch<'a>(cursor: &mut Cursor<'a>) -> Result<Option<Cursor<'a>>, usize>
     }
 }
 
-// Adds the rows of a batch.
+/// How many records the batch has, its base offset, and its records; or its fault, but for theirs.
 #[tactic(auto, unfolding(crate::specs::Batch::batch_at))]
-fn take_batch(
-    alloc: Global,
-    batch: Cursor,
-    from: i64,
-    rows: &mut Vec<Stored>,
-) -> Result<(), BatchFault>
+pub fn counted(batch: Cursor) -> Result<(u32, i64, Cursor), BatchFault>
     requires { 61 ≤ length batch.left }
-    ensures { Adds result (added from rows.old.items (batch_at batch.entry)) rows.new.items }
+    ensures counts { Counts result (batch_at batch.entry) }
+    ensures base { IfOk result (λ found. found.1 ≡ int64_at batch.entry.left) }
 {
     let mut batch = batch;
     let place = batch.place();
@@ -147,7 +145,24 @@ fn take_batch(
     if head.count < 0 {
         return Err(BatchFault::BadRecord(place + 57));
     }
-    take_records(alloc, &mut batch, head.count as u32, head.base, from, rows)
+    Ok((head.count as u32, head.base, batch))
+}
+
+// Adds the rows of a batch.
+fn take_batch(
+    alloc: Global,
+    batch: Cursor,
+    from: i64,
+    rows: &mut Vec<Stored>,
+) -> Result<(), BatchFault>
+    requires { 61 ≤ length batch.left }
+    ensures { Adds result (added from rows.old.items (batch_at batch.entry)) rows.new.items }
+{
+    let (count, base, mut records) = match counted(batch) {
+        Ok(found) => found,
+        Err(fault) => return Err(fault),
+    };
+    take_records(alloc, &mut records, count, base, from, rows)
 }
 
 // Why a batch isn't read, but for its records.

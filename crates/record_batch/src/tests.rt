@@ -1,5 +1,8 @@
 //! Vectors made by hand from the Kafka documentation's "Message Format".
-use crate::{BatchFault, offsets_of_a_batch_rise, read_batches, write_batch};
+use crate::{
+    BatchFault, FirstBatch, first_batch, offsets_of_a_batch_rise, one_batch, read_batches,
+    write_batch,
+};
 use broker_link::{NewRecord, Stored};
 use gate_io::Items;
 use std::alloc::{AllocError, Global};
@@ -380,6 +383,39 @@ fn answers(alloc: Global, bytes: &[u8], from: i64, wanted: Result<&[Wanted], Bat
     }
 }
 
+// Whether the rows stand at the base offset, the next one, and so on.
+fn follow(base: i64, rows: &[Wanted]) -> bool {
+    for (delta, row) in rows.iter().enumerate() {
+        if row.0 != base.wrapping_add(delta as i64) {
+            return false;
+        }
+    }
+    true
+}
+
+// Whether bytes that are one batch are judged as its rows or its fault say.
+fn is_judged(bytes: &[u8], base: i64, wanted: Result<&[Wanted], BatchFault>) -> bool {
+    let rows = match wanted {
+        Ok(rows) => rows,
+        Err(fault) => return first_batch(bytes) == Err(fault) && one_batch(bytes).is_none(),
+    };
+    let Ok(count) = u32::try_from(rows.len()) else {
+        return false;
+    };
+    let first = FirstBatch {
+        base,
+        size: bytes.len(),
+        count,
+        contiguous: follow(base, rows),
+    };
+    let one = if first.contiguous && first.count > 0 {
+        Some(first.count)
+    } else {
+        None
+    };
+    first_batch(bytes) == Ok(Some(first)) && one_batch(bytes) == one
+}
+
 // The label of the first case that is answered otherwise.
 fn first_wrong(alloc: Global, cases: &[Case]) -> Result<Option<&'static str>, AllocError> {
     for (label, base, count, records, wanted) in cases {
@@ -388,7 +424,8 @@ fn first_wrong(alloc: Global, cases: &[Case]) -> Result<Option<&'static str>, Al
             Ok(rows) => Ok(*rows),
             Err(place) => Err(BatchFault::BadRecord(*place)),
         };
-        if !answers(alloc, bytes.as_slice(), 0, wanted) {
+        let bytes = bytes.as_slice();
+        if !answers(alloc, bytes, 0, wanted) || !is_judged(bytes, *base, wanted) {
             return Ok(Some(*label));
         }
     }
@@ -424,6 +461,32 @@ fn reads_batches_in_turn_up_to_a_cut_one(rt: HostRuntime) -> Result<(), Fail> {
     assert!(rt; answers(alloc, &KAFKA[..72], 0, Ok(&[])));
     assert!(rt; answers(alloc, &KAFKA, 1, Ok(&[])));
     assert!(rt; answers(alloc, b"", 0, Ok(&[])));
+    Ok(())
+}
+
+#[test]
+fn bytes_behind_a_batch_are_no_part_of_it(rt: HostRuntime) -> Result<(), Fail> {
+    let mut bytes = [0u8; 146];
+    bytes[..73].copy_from_slice(&KAFKA);
+    bytes[73..].copy_from_slice(&KAFKA);
+    let first = FirstBatch {
+        base: 0,
+        size: 73,
+        count: 1,
+        contiguous: true,
+    };
+    assert!(rt; one_batch(&KAFKA) == Some(1));
+    for size in 74..147usize {
+        assert!(rt;
+            first_batch(&bytes[..size]) == Ok(Some(first)),
+            "{size} bytes"
+        );
+        assert!(rt; one_batch(&bytes[..size]).is_none(), "{size} bytes");
+    }
+    for size in 0..73usize {
+        assert!(rt; first_batch(&KAFKA[..size]) == Ok(None), "cut at {size}");
+        assert!(rt; one_batch(&KAFKA[..size]).is_none(), "cut at {size}");
+    }
     Ok(())
 }
 
