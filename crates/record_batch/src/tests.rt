@@ -399,10 +399,13 @@ fn is_judged(bytes: &[u8], base: i64, wanted: Result<&[Wanted], BatchFault>) -> 
         Ok(rows) => rows,
         Err(fault) => return first_batch(bytes) == Err(fault) && one_batch(bytes).is_none(),
     };
+    let Ok(count) = u32::try_from(rows.len()) else {
+        return false;
+    };
     let first = FirstBatch {
         base,
         size: bytes.len(),
-        count: rows.len() as u32,
+        count,
         contiguous: follow(base, rows),
     };
     let one = if first.contiguous && first.count > 0 {

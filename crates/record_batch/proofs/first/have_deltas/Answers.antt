@@ -4,7 +4,6 @@ use Rattle.std.specs.Ordering.{int_eq}
 use Rattle.record_batch.specs.Seen.{seen}
 use Rattle.std.specs.Int.{w64}
 use Rattle.std.proofs.lemmas.Int.{ints, to_z-of_z}
-use Rattle.record_batch.specs.Record.{records_at}
 use Rattle.record_batch.proofs.FirstLemmas.{all_faulty, all_told, none_ended, record_judged, record_not_judged}
 use Rattle.record_batch.proofs.first.have_deltas.Goals as goal
 
