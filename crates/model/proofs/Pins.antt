@@ -13,7 +13,7 @@ use Rattle.model.specs.World.{Key, is_key, Settings, Format, Consumer, World, to
 use Rattle.model.specs.World.{Mode}
 use Rattle.model.specs.World.Mode.{ByTopics}
 use Rattle.model.specs.Entry.{Event, Reply, Turn, Entry, Call, PartTold, Placed, Batch, Given}
-use Rattle.model.specs.Entry.Act.{Create, Commit, Records}
+use Rattle.model.specs.Entry.Act.{Create, Delete, Subscription, Unsubscribe, Assignments, Subscribe, Assign, Fixed, Seek, SeekEdge, Commit, Records}
 use Rattle.model.specs.Entry.Call.{Produce, Ask, Of}
 use Rattle.model.specs.Entry.Event.{Committed, Rebalanced, Reset, Looked}
 use Rattle.model.specs.Entry.Placed.{Failed}
@@ -25,7 +25,7 @@ use Rattle.model.specs.Step.{Live, Gone, Acts, Step, Whole, Starved, Does, Tells
 use Rattle.model.specs.Legal.{Counts, Tally, Run, Legal, Ran, AreLive, event_tally, events_tally, call_tally, entry_tally, is_fault, one_if}
 use Rattle.model.specs.Causes.{IsCaused, is_commit, is_records, IsRebalanced, IsPumped, Rises, Pumped, has_looked, is_out, placed_in, Rebalances, to_fix}
 use Rattle.model.specs.Causes.Pumped.{Unpumped, Steady, NotYet, Lost, Shared}
-use Rattle.model.specs.Sessions.{IsQuiet, IsTooLarge, records_for, records_of}
+use Rattle.model.specs.Sessions.{IsCodeOf, IsQuiet, IsTooLarge, records_for, records_of}
 use Rattle.model.specs.Buffers.{Fetches, IsBuffered, IsFetched, buffered_at, rows_at_hand}
 use Rattle.model.specs.Nodes.{Heard, HasNodes}
 use Rattle.model.specs.Pinned.{rebalances_in, rebalances_of}
@@ -277,3 +277,26 @@ events_owed w e key formats timeout bound c call live =
     let placed : (let t = call_tally (left e.expired w) e.call e.events in t.placed) ≡ (let t = events_tally (Some c) e.events in t.placed) = ap (λ (t : Tally). t.placed) owed in
     let looks : (let t = call_tally (left e.expired w) e.call e.events in t.looks) ≡ (let t = events_tally (Some c) e.events in t.looks) = ap (λ (t : Tally). t.looks) owed in
     (omega (arith, short), omega (arith, placed), omega (arith, looks))
+
+-- a code comes where a call commits or reads
+no_code : (log : Log) (grouped : List ℕ → Bool) (found : Option Consumer) (call : Option Call) (code : ℤ) → is_commit call ≡ false → is_records call ≡ false → IsCodeOf log grouped found call code → ⊥
+no_code log grouped None call code not_commit not_records is = is
+no_code log grouped (Some c) None code not_commit not_records is = is
+no_code log grouped (Some c) (Some (Produce topic batch)) code not_commit not_records is = is
+no_code log grouped (Some c) (Some (Ask question)) code not_commit not_records is = is
+no_code log grouped (Some c) (Some (Of key (Create settings))) code not_commit not_records is = is
+no_code log grouped (Some c) (Some (Of key Delete)) code not_commit not_records is = is
+no_code log grouped (Some c) (Some (Of key Subscription)) code not_commit not_records is = is
+no_code log grouped (Some c) (Some (Of key Unsubscribe)) code not_commit not_records is = is
+no_code log grouped (Some c) (Some (Of key Assignments)) code not_commit not_records is = is
+no_code log grouped (Some c) (Some (Of key (Subscribe names))) code not_commit not_records is = is
+no_code log grouped (Some c) (Some (Of key (Assign ats))) code not_commit not_records is = is
+no_code log grouped (Some c) (Some (Of key (Fixed ats))) code not_commit not_records is = is
+no_code log grouped (Some c) (Some (Of key (Seek news))) code not_commit not_records is = is
+no_code log grouped (Some c) (Some (Of key (SeekEdge edge ats))) code not_commit not_records is = is
+no_code log grouped (Some c) (Some (Of key (Commit rows))) code not_commit not_records is = absurd (cc not_commit)
+no_code log grouped (Some c) (Some (Of key (Records formats timeout bound))) code not_commit not_records is = absurd (cc not_records)
+
+pub other_calls : (log : Log) (grouped : List ℕ → Bool) (found : Option Consumer) (call : Option Call) (code : ℤ)
+    → (IsCodeOf log grouped None call code → ⊥) × (is_commit call ≡ false → is_records call ≡ false → IsCodeOf log grouped found call code → ⊥)
+other_calls log grouped found call code = (λ is. is, no_code log grouped found call code)

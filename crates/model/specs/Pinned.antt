@@ -5,9 +5,9 @@ use Rattle.model.specs.Log.{TopicPart, Log, part_at}
 use Rattle.model.specs.Walk.{Place, Lot, Item, rows_at}
 use Rattle.model.specs.World.{Edge, Key, Settings, Format, Consumer, World, touched, position_in}
 use Rattle.model.specs.World.Mode.{Assigned, ByTopics}
-use Rattle.model.specs.Entry.{Batch, Event, PartTold, Reply, Turn, Entry, Call}
+use Rattle.model.specs.Entry.{Event, PartTold, Reply, Turn, Entry, Call}
 use Rattle.model.specs.Entry.Act.{Assign, Assignments, Create, Commit, Delete, Fixed, Seek, SeekEdge, Subscribe, Subscription, Unsubscribe, Records}
-use Rattle.model.specs.Entry.Call.{Of, Produce}
+use Rattle.model.specs.Entry.Call.{Of}
 use Rattle.model.specs.Entry.Event.{Committed, Rebalanced, Reset, Looked}
 use Rattle.model.specs.Entry.Question.{Brokers}
 use Rattle.model.specs.Entry.Reply.{Done, Broker, Nodes, Refused, Shown, Told, Want}
@@ -190,13 +190,9 @@ FetchesAreAsked =
 abbrev pub NodesAreThoseHeard : Type 0
 NodesAreThoseHeard = (heard : Heard) (nodes : List ℤ) → HasNodes heard (Some (Nodes nodes)) → IsPermutation heard.nodes nodes
 
--- In a session no code answers a produce, a call that finds no consumer, or one that neither commits nor reads.
+-- In a session no code answers a call that finds no consumer, or any call that neither commits nor reads.
 abbrev pub OtherCallsHaveNoCode : Type 0
 OtherCallsHaveNoCode =
-    (log : Log) (grouped : List ℕ → Bool) (found : Option Consumer) (c : Consumer) (call : Option Call) (topic : List ℕ) (batch : Batch) (key : Key) (ats : List TopicPart) (news : List Place) (code : ℤ)
+    (log : Log) (grouped : List ℕ → Bool) (found : Option Consumer) (call : Option Call) (code : ℤ)
     → (IsCodeOf log grouped None call code → ⊥)
-    × (IsCodeOf log grouped (Some c) (Some (Produce topic batch)) code → ⊥)
-    × (IsCodeOf log grouped (Some c) (Some (Of key Delete)) code → ⊥)
-    × (IsCodeOf log grouped (Some c) (Some (Of key (Assign ats))) code → ⊥)
-    × (IsCodeOf log grouped (Some c) (Some (Of key (Seek news))) code → ⊥)
-    × (IsCodeOf log grouped (Some c) (Some (Of key (Fixed ats))) code → ⊥)
+    × (is_commit call ≡ false → is_records call ≡ false → IsCodeOf log grouped found call code → ⊥)

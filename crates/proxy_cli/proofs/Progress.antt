@@ -11,12 +11,13 @@ use Rattle.http_conn.specs.Stream.{Ending, Begins, EndsBehind, is_closed, max_re
 use Rattle.http_conn.specs.Stream.Ending.{End, Closed, Limit, CutShort, BadPlace}
 use Rattle.http_conn.proofs.BeginLemmas.{begins_push}
 use Rattle.http_conn.proofs.BeginsLemmas.{begins_cut}
-use Rattle.http_conn.specs.Told.{Comes, Conn}
-use Rattle.http_conn.specs.Next.{IsWaiting}
+use Rattle.http_conn.specs.Told.{Comes, Conn, LastRead}
+use Rattle.http_conn.specs.Next.{IsWaiting, NeedsMore}
 use Rattle.proxy_cli.specs.Served.{closes, responses}
 use Rattle.proxy_cli.specs.Ended.{TellsEnd}
 use Rattle.proxy_cli.specs.declared.ended.EndWhy.{EndWhy}
 use Rattle.proxy_cli.specs.declared.ended.EndWhy.TheVariants.{Limit as AtTheLimit, Closed as AtAClose}
+use Rattle.proxy_cli.specs.Patience.{AskedBehind, ReadsBefore, ReadsBehind, ReadsTo, Took}
 use Rattle.proxy_cli.specs.Session.{Whole, Lost, Starved, CutOff, SplitsLast}
 use Rattle.proxy_cli.specs.Turn.{ServesOne, EndsAs, EndsHere, CutAt, CutsReply, CutsRefusal}
 use Rattle.proxy_cli.proofs.Wants.{nothing_appended}
@@ -26,21 +27,54 @@ abbrev pub Said : Type 1
 Said = List Request → List Reply → Type 0
 
 -- the connection so far, after so many requests
-pub record Progress (answers : Said) (input : List ℕ) (before now : Option (List ℕ)) (count : ℕ) (conn : Conn) (left : Option (List ℕ)) : Type 0 where
+pub record Progress {S : Type 0} (left asked : S → Option (List ℕ)) (first s : S) (answers : Said) (input : List ℕ) (before now : Option (List ℕ)) (count : ℕ) (conn : Conn) : Type 0 where
   pub requests : List Request
   pub replies : List Reply
   pub rest : List ℕ
   pub counted : length requests ≡ count
   pub paired : length replies ≡ length requests
-  pub comes : Comes conn.held left rest
+  pub comes : Comes conn.held (left s) rest
   pub closed : is_closed requests ≡ conn.over
   pub begins : Begins 0 input requests rest
   pub answered : answers requests replies
   pub wrote : Appends before now (responses 0 requests replies)
+  pub reads : ReadsBefore asked first s input requests
 
 -- what is said goes on by one request more
 abbrev pub GoesOnBy : Said → (Request → Reply → Type 0) → Said → Type 0
 GoesOnBy answers one answers2 = (qs : List Request) (rs : List Reply) (q : Request) (r : Reply) → length rs ≡ length qs → answers qs rs → one q r → answers2 (qs ++ q ∷ []) (rs ++ r ∷ [])
+
+-- ---- the last read
+
+-- behind these requests, where a turn began there and read
+asked_here : (asked : Option (List ℕ)) (input : List ℕ) (requests : List Request) (rest held : List ℕ) → Begins 0 input requests rest → Comes held asked rest → NeedsMore held → AskedBehind asked input requests
+asked_here asked input requests rest held begins comes needs = record { rest = rest; begins = begins; held = held; comes = comes; needs = needs }
+
+reads_on : {S : Type 0} (asked : S → Option (List ℕ)) (first s s2 : S) (input : List ℕ) (requests others : List Request) → s2 ≡ s → ReadsBefore asked first s input requests → ReadsBefore asked first s2 input (requests ++ others)
+reads_on {S} asked first s s2 input requests others same (inl none) = inl (same ∙ none)
+reads_on {S} asked first s s2 input requests others same (inr x) = inr (record {
+  firsts = x.firsts;
+  next = x.next;
+  others = x.others ++ others;
+  parts = ap (λ (l : List Request). l ++ others) x.parts ∙ append_assoc x.firsts (x.next ∷ x.others) others;
+  behind = subst (λ (k : S). AskedBehind (asked k) input x.firsts) (sym same) x.behind;
+})
+
+reads_more : {S : Type 0} (left asked : S → Option (List ℕ)) (first s s2 : S) (input : List ℕ) (requests : List Request) (r : Request) (rest held : List ℕ)
+    → Begins 0 input requests rest → Comes held (left s) rest → LastRead left asked held s s2 NeedsMore → ReadsBefore asked first s input requests → ReadsBefore asked first s2 input (requests ++ r ∷ [])
+unfolding LastRead
+reads_more left asked first s s2 input requests r rest held begins comes last before = elim (last rest comes) [
+  | inl same ↦ reads_on asked first s s2 input requests (r ∷ []) same before
+  | inr x ↦ inr (record { firsts = requests; next = r; others = []; parts = refl; behind = asked_here (asked s2) input requests rest x.0 begins x.1 x.2 })
+]
+
+reads_behind : {S : Type 0} (left asked : S → Option (List ℕ)) (first s s2 : S) (input : List ℕ) (requests : List Request) (rest held : List ℕ)
+    → Begins 0 input requests rest → Comes held (left s) rest → LastRead left asked held s s2 NeedsMore → ReadsBefore asked first s input requests → ReadsBehind asked first s2 input requests
+unfolding LastRead
+reads_behind {S} left asked first s s2 input requests rest held begins comes last before = elim (last rest comes) [
+  | inl same ↦ inl (subst (λ (l : List Request). ReadsBefore asked first s2 input l) (append-nil requests) (reads_on asked first s s2 input requests [] same before))
+  | inr x ↦ inr (asked_here (asked s2) input requests rest x.0 begins x.1 x.2)
+]
 
 -- ---- one request more
 
@@ -61,11 +95,11 @@ responses_more n (q ∷ rs) (x ∷ ps) r p same =
     ∙ (sym (append_assoc (response_of x (closes n q)) (responses (n + 1) rs ps) (response_of p (closes (n + 1 + length rs) r)))
     ∙ ap (λ (k : ℕ). (response_of x (closes n q) ++ responses (n + 1) rs ps) ++ response_of p (closes k r)) e)
 
-pub progress_more : (answers answers2 : Said) (one : Request → Reply → Type 0) (input : List ℕ) (before now next : Option (List ℕ)) (count : ℕ) (conn conn2 : Conn) (left left2 : Option (List ℕ)) (close : Bool)
-    → count < max_requests → conn.over ≡ false → Progress answers input before now count conn left → GoesOnBy answers one answers2
-    → ((all : List ℕ) → Comes conn.held left all → ServesOne one all conn2 left2 now next close) → close ≡ (count + 1 == max_requests)
-    → Progress answers2 input before next (count + 1) conn2 left2
-progress_more answers answers2 one input before now next count conn conn2 left left2 close lt still so_far more step is =
+pub progress_more : {S : Type 0} (left asked : S → Option (List ℕ)) (first s s2 : S) (answers answers2 : Said) (one : Request → Reply → Type 0) (input : List ℕ) (before now next : Option (List ℕ)) (count : ℕ) (conn conn2 : Conn) (close : Bool)
+    → count < max_requests → conn.over ≡ false → Progress left asked first s answers input before now count conn → GoesOnBy answers one answers2
+    → ((all : List ℕ) → Comes conn.held (left s) all → ServesOne one all conn2 (left s2) now next close) → LastRead left asked conn.held s s2 NeedsMore → close ≡ (count + 1 == max_requests)
+    → Progress left asked first s2 answers2 input before next (count + 1) conn2
+progress_more left asked first s s2 answers answers2 one input before now next count conn conn2 close lt still so_far more step last is =
     let one = step so_far.rest so_far.comes in
     let closing : (one.request.close || close) ≡ closes (0 + length so_far.requests) one.request =
     ap (λ (k : Bool). one.request.close || k) (is ∙ ap (λ (k : ℕ). k + 1 == max_requests) (omega (arith, so_far.counted))) in
@@ -82,6 +116,7 @@ progress_more answers answers2 one input before now next count conn conn2 left l
       wrote =
           subst (λ (l : List ℕ). Appends before next l) (sym (responses_more 0 so_far.requests so_far.replies one.request one.reply so_far.paired))
           (Appends-trans before now next (responses 0 so_far.requests so_far.replies) _ so_far.wrote (subst (λ (k : Bool). Appends now next (response_of one.reply k)) closing one.wrote));
+      reads = reads_more left asked first s s2 input so_far.requests one.request so_far.rest conn.held so_far.begins so_far.comes last so_far.reads;
     }
 
 -- ---- the start, and the ends
@@ -90,18 +125,19 @@ comes_all : (input : List ℕ) (left : Option (List ℕ)) → left ≡ Some inpu
 comes_all input None told = absurd (cc told)
 comes_all input (Some xs) told = told
 
-pub progress_start : (answers : Said) (input : List ℕ) (before left : Option (List ℕ)) → answers [] [] → left ≡ Some input → Progress answers input before before 0 (record { held = []; over = false }) left
-progress_start answers input before left none told = record {
+pub progress_start : {S : Type 0} (left asked : S → Option (List ℕ)) (first : S) (answers : Said) (input : List ℕ) (before : Option (List ℕ)) → answers [] [] → left first ≡ Some input → Progress left asked first first answers input before before 0 (record { held = []; over = false })
+progress_start left asked first answers input before none told = record {
   requests = [];
   replies = [];
   rest = input;
   counted = refl;
   paired = refl;
-  comes = comes_all input left told;
+  comes = comes_all input (left first) told;
   closed = refl;
   begins = refl;
   answered = none;
   wrote = nothing_appended before;
+  reads = inl refl;
 }
 
 ends_behind : (n : ℕ) (closed : Bool) (rest : List ℕ) (ending : Ending) → n < max_requests → closed ≡ false → EndsAs rest ending → EndsBehind n closed rest ending
@@ -111,10 +147,17 @@ ends_behind n closed rest Limit lt still ends = absurd ends
 ends_behind n closed rest (CutShort due) lt still ends = (lt, still, ends.0, ends.1)
 ends_behind n closed rest (BadPlace due r) lt still ends = (lt, still, ends.0, ends.1)
 
-pub progress_end : (answers : Said) (input : List ℕ) (before now next : Option (List ℕ)) (count : ℕ) (conn : Conn) (left : Option (List ℕ)) (why : EndWhy)
-    → count < max_requests → conn.over ≡ false → Progress answers input before now count conn left → ((all : List ℕ) → Comes conn.held left all → EndsHere why all now next)
-    → (written : List ℕ) × Appends before next written × ((whole : Whole answers input written) × TellsEnd (record { requests = count; why = why }) whole.requests whole.ending)
-progress_end answers input before now next count conn left why lt still so_far end =
+reads_to : {S : Type 0} (asked : S → Option (List ℕ)) (first s : S) (input : List ℕ) (requests : List Request) (rest : List ℕ) (ending : Ending) → EndsAs rest ending → ReadsBehind asked first s input requests → ReadsTo asked first s input requests ending
+reads_to asked first s input requests rest End ends reads = reads
+reads_to asked first s input requests rest Closed ends reads = absurd ends
+reads_to asked first s input requests rest Limit ends reads = absurd ends
+reads_to asked first s input requests rest (CutShort due) ends reads = reads
+reads_to asked first s input requests rest (BadPlace due r) ends reads = reads
+
+pub progress_end : {S : Type 0} (left asked : S → Option (List ℕ)) (first s s2 : S) (answers : Said) (input : List ℕ) (before now next : Option (List ℕ)) (count : ℕ) (conn : Conn) (why : EndWhy)
+    → count < max_requests → conn.over ≡ false → Progress left asked first s answers input before now count conn → LastRead left asked conn.held s s2 NeedsMore → ((all : List ℕ) → Comes conn.held (left s) all → EndsHere why all (left s2) now next)
+    → (written : List ℕ) × Appends before next written × ((whole : Whole answers input written) × Took left asked first s2 input whole.requests whole.ending whole.stream.rest × TellsEnd (record { requests = count; why = why }) whole.requests whole.ending)
+progress_end left asked first s s2 answers input before now next count conn why lt still so_far last end =
     let here = end so_far.rest so_far.comes in (
       responses 0 so_far.requests so_far.replies ++ here.last,
       Appends-trans before now next (responses 0 so_far.requests so_far.replies) here.last so_far.wrote here.wrote,
@@ -129,14 +172,21 @@ progress_end answers input before now next count conn left why lt still so_far e
           ends = here.is_last;
           output = refl;
         },
+        record {
+          held = here.held;
+          comes = here.comes;
+          reads =
+              reads_to asked first s2 input so_far.requests so_far.rest here.ending here.ends
+              (reads_behind left asked first s s2 input so_far.requests so_far.rest conn.held so_far.begins so_far.comes last so_far.reads);
+        },
         record { count = sym so_far.counted; why = here.is_why },
       ),
     )
 
-pub progress_limit : (answers : Said) (input : List ℕ) (before now : Option (List ℕ)) (count : ℕ) (conn : Conn) (left : Option (List ℕ))
-    → Progress answers input before now count conn left → count ≡ max_requests
-    → (written : List ℕ) × Appends before now written × ((whole : Whole answers input written) × TellsEnd (record { requests = max_requests; why = AtTheLimit }) whole.requests whole.ending)
-progress_limit answers input before now count conn left so_far full = (
+pub progress_limit : {S : Type 0} (left asked : S → Option (List ℕ)) (first s : S) (answers : Said) (input : List ℕ) (before now : Option (List ℕ)) (count : ℕ) (conn : Conn)
+    → Progress left asked first s answers input before now count conn → count ≡ max_requests
+    → (written : List ℕ) × Appends before now written × ((whole : Whole answers input written) × Took left asked first s input whole.requests whole.ending whole.stream.rest × TellsEnd (record { requests = max_requests; why = AtTheLimit }) whole.requests whole.ending)
+progress_limit left asked first s answers input before now count conn so_far full = (
   responses 0 so_far.requests so_far.replies,
   so_far.wrote,
   (
@@ -150,14 +200,15 @@ progress_limit answers input before now count conn left so_far full = (
       ends = refl;
       output = sym (append-nil (responses 0 so_far.requests so_far.replies));
     },
+    record { held = conn.held; comes = so_far.comes; reads = so_far.reads },
     record { count = sym (so_far.counted ∙ full); why = tt },
   ),
 )
 
-pub progress_closed : (answers : Said) (input : List ℕ) (before now : Option (List ℕ)) (count : ℕ) (conn : Conn) (left : Option (List ℕ))
-    → count < max_requests → conn.over ≡ true → Progress answers input before now count conn left
-    → (written : List ℕ) × Appends before now written × ((whole : Whole answers input written) × TellsEnd (record { requests = count; why = AtAClose }) whole.requests whole.ending)
-progress_closed answers input before now count conn left lt over so_far = (
+pub progress_closed : {S : Type 0} (left asked : S → Option (List ℕ)) (first s : S) (answers : Said) (input : List ℕ) (before now : Option (List ℕ)) (count : ℕ) (conn : Conn)
+    → count < max_requests → conn.over ≡ true → Progress left asked first s answers input before now count conn
+    → (written : List ℕ) × Appends before now written × ((whole : Whole answers input written) × Took left asked first s input whole.requests whole.ending whole.stream.rest × TellsEnd (record { requests = count; why = AtAClose }) whole.requests whole.ending)
+progress_closed left asked first s answers input before now count conn lt over so_far = (
   responses 0 so_far.requests so_far.replies,
   so_far.wrote,
   (
@@ -171,13 +222,14 @@ progress_closed answers input before now count conn left lt over so_far = (
       ends = refl;
       output = sym (append-nil (responses 0 so_far.requests so_far.replies));
     },
+    record { held = conn.held; comes = so_far.comes; reads = so_far.reads },
     record { count = sym so_far.counted; why = tt },
   ),
 )
 
-pub progress_starved : (answers : Said) (input : List ℕ) (before now : Option (List ℕ)) (count : ℕ) (conn : Conn) (left : Option (List ℕ))
-    → Progress answers input before now count conn left → (written : List ℕ) × Appends before now written × Starved answers input written
-progress_starved answers input before now count conn left so_far = (
+pub progress_starved : {S : Type 0} (left asked : S → Option (List ℕ)) (first s : S) (answers : Said) (input : List ℕ) (before now : Option (List ℕ)) (count : ℕ) (conn : Conn)
+    → Progress left asked first s answers input before now count conn → (written : List ℕ) × Appends before now written × Starved answers input written
+progress_starved left asked first s answers input before now count conn so_far = (
   responses 0 so_far.requests so_far.replies,
   so_far.wrote,
   record { requests = so_far.requests; rest = so_far.rest; begins = so_far.begins; replies = so_far.replies; answered = so_far.answered; output = refl },
@@ -188,13 +240,13 @@ progress_starved answers input before now count conn left so_far = (
 some_is : (x y : List ℕ) → Some x ≡ Some y → x ≡ y
 some_is x y e = cc e
 
-pub progress_lost : (answers : Said) (input : List ℕ) (before now : Option (List ℕ)) (count : ℕ) (conn : Conn) (held2 : List ℕ) (first left left2 : Option (List ℕ))
-    → first ≡ Some input → conn.over ≡ false → Progress answers input before now count conn left
-    → ((all : List ℕ) → Comes conn.held left all → Comes held2 left2 all × IsWaiting held2)
-    → (got : List ℕ) × (written : List ℕ) × Consumes first left2 got × Appends before now written × Lost answers got written
-progress_lost answers input before now count conn held2 first left left2 told still so_far lost =
+pub progress_lost : {S : Type 0} (left asked : S → Option (List ℕ)) (first s s2 : S) (answers : Said) (input : List ℕ) (before now : Option (List ℕ)) (count : ℕ) (conn : Conn) (held2 : List ℕ)
+    → left first ≡ Some input → conn.over ≡ false → Progress left asked first s answers input before now count conn
+    → ((all : List ℕ) → Comes conn.held (left s) all → Comes held2 (left s2) all × IsWaiting held2)
+    → (got : List ℕ) × (written : List ℕ) × Consumes (left first) (left s2) got × Appends before now written × Lost answers got written
+progress_lost left asked first s s2 answers input before now count conn held2 told still so_far lost =
     let here = lost so_far.rest so_far.comes in
-    go first left2 told here.0 here.1
+    go (left first) (left s2) told here.0 here.1
   where
     go : (o p : Option (List ℕ)) → o ≡ Some input → Comes held2 p so_far.rest → IsWaiting held2 → (got : List ℕ) × (written : List ℕ) × Consumes o p got × Appends before now written × Lost answers got written
     go None p told comes waits = absurd (cc told)
@@ -225,14 +277,14 @@ splits_last n (q ∷ q2 ∷ rs) (x ∷ ps) r p same =
     )
 
 -- the response to one request more was cut
-pub progress_cut : (answers answers2 : Said) (one : Request → Reply → Type 0) (input : List ℕ) (before now next : Option (List ℕ)) (count n : ℕ) (conn : Conn) (left : Option (List ℕ)) (close : Bool)
-    → count < max_requests → conn.over ≡ false → Progress answers input before now count conn left → GoesOnBy answers one answers2
-    → ((all : List ℕ) → Comes conn.held left all → CutsReply one n all now next close ⊎ (CutsRefusal n all now next × ((qs : List Request) (rs : List Reply) → answers qs rs → answers2 qs rs)))
-    → close ≡ (count + 1 == max_requests) → (written : List ℕ) × Appends before next written × CutOff answers2 input written n
-progress_cut answers answers2 one input before now next count n conn left close lt still so_far more cuts is = go (cuts so_far.rest so_far.comes)
+pub progress_cut : {S : Type 0} (left asked : S → Option (List ℕ)) (first s s2 : S) (answers answers2 : Said) (one : Request → Reply → Type 0) (input : List ℕ) (before now next : Option (List ℕ)) (count n : ℕ) (conn : Conn) (close : Bool)
+    → count < max_requests → conn.over ≡ false → Progress left asked first s answers input before now count conn → GoesOnBy answers one answers2 → LastRead left asked conn.held s s2 NeedsMore
+    → ((all : List ℕ) → Comes conn.held (left s) all → CutsReply one n all now next close ⊎ (CutsRefusal n all now next × ((qs : List Request) (rs : List Reply) → answers qs rs → answers2 qs rs)))
+    → close ≡ (count + 1 == max_requests) → (written : List ℕ) × Appends before next written × CutOff asked first s2 answers2 input written n
+progress_cut left asked first s s2 answers answers2 one input before now next count n conn close lt still so_far more last cuts is = go (cuts so_far.rest so_far.comes)
   where
     go : CutsReply one n so_far.rest now next close ⊎ (CutsRefusal n so_far.rest now next × ((qs : List Request) (rs : List Reply) → answers qs rs → answers2 qs rs))
-        → (written : List ℕ) × Appends before next written × CutOff answers2 input written n
+        → (written : List ℕ) × Appends before next written × CutOff asked first s2 answers2 input written n
     go (inl one) =
         let closing : (one.request.close || close) ≡ closes (0 + length so_far.requests) one.request =
         ap (λ (k : Bool). one.request.close || k) (is ∙ ap (λ (k : ℕ). k + 1 == max_requests) (omega (arith, so_far.counted))) in
@@ -248,7 +300,10 @@ progress_cut answers answers2 one input before now next count n conn left close 
             answered = more so_far.requests so_far.replies one.request one.reply so_far.paired so_far.answered one.answered;
             before = responses 0 so_far.requests so_far.replies;
             last = bytes;
-            cut = inl (splits_last 0 so_far.requests so_far.replies one.request one.reply so_far.paired);
+            cut = inl (
+              splits_last 0 so_far.requests so_far.replies one.request one.reply so_far.paired,
+              reads_more left asked first s s2 input so_far.requests one.request so_far.rest conn.held so_far.begins so_far.comes last so_far.reads,
+            );
             within = cut.0;
             output = refl;
           },
@@ -264,7 +319,12 @@ progress_cut answers answers2 one input before now next count n conn left close 
         answered = refusal.1 so_far.requests so_far.replies so_far.answered;
         before = responses 0 so_far.requests so_far.replies;
         last = response_of one.said true;
-        cut = inr (refl, so_far.closed ∙ still, (one.wanted, one.bad, (one.said, one.replied, refl)));
+        cut = inr (
+          refl,
+          so_far.closed ∙ still,
+          (one.wanted, one.bad, (one.said, one.replied, refl)),
+          reads_behind left asked first s s2 input so_far.requests so_far.rest conn.held so_far.begins so_far.comes last so_far.reads,
+        );
         within = one.cut.0;
         output = refl;
       },
@@ -272,9 +332,9 @@ progress_cut answers answers2 one input before now next count n conn left close 
 
 -- ---- where nothing was done in a turn
 
-pub same_held : (answers answers2 : Said) (input : List ℕ) (before now next : Option (List ℕ)) (count : ℕ) (conn : Conn) (left : Option (List ℕ))
-    → next ≡ now → ((qs : List Request) (rs : List Reply) → answers qs rs → answers2 qs rs) → Progress answers input before now count conn left → Progress answers2 input before next count conn left
-same_held answers answers2 input before now next count conn left same still so_far = record {
+pub same_held : {S : Type 0} (left asked : S → Option (List ℕ)) (first s : S) (answers answers2 : Said) (input : List ℕ) (before now next : Option (List ℕ)) (count : ℕ) (conn : Conn)
+    → next ≡ now → ((qs : List Request) (rs : List Reply) → answers qs rs → answers2 qs rs) → Progress left asked first s answers input before now count conn → Progress left asked first s answers2 input before next count conn
+same_held left asked first s answers answers2 input before now next count conn same still so_far = record {
   requests = so_far.requests;
   replies = so_far.replies;
   rest = so_far.rest;
@@ -285,4 +345,5 @@ same_held answers answers2 input before now next count conn left same still so_f
   begins = so_far.begins;
   answered = still so_far.requests so_far.replies so_far.answered;
   wrote = subst (λ (k : Option (List ℕ)). Appends before k (responses 0 so_far.requests so_far.replies)) (sym same) so_far.wrote;
+  reads = so_far.reads;
 }

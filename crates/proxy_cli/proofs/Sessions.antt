@@ -7,11 +7,17 @@ use Rattle.proxy_cli.specs.declared.ended.Ended.{Ended}
 use Rattle.proxy_cli.proofs.Progress.{Said}
 
 module _ (answers answers2 : Said) (so : (qs : List Request) (rs : List Reply) → answers qs rs → answers2 qs rs) where
-  pub all_so : (ended : Ended) (left held held2 : Option (List ℕ)) → EndsSo ended answers left held held2 → ServesAll answers2 left held held2
-  all_so ended left held held2 said = λ input is.
+  pub all_so : {S : Type 0} (left asked : S → Option (List ℕ)) (old new : S) (ended : Ended) (held held2 : Option (List ℕ)) → EndsSo ended left asked old new answers held held2 → ServesAll left asked old new answers2 held held2
+  all_so left asked old new ended held held2 said = λ input is.
       let x = said input is in
-      let w = x.2.0 in
-      (x.0, x.1, record { requests = w.requests; ending = w.ending; stream = w.stream; replies = w.replies; answered = so w.requests w.replies w.answered; last = w.last; ends = w.ends; output = w.output })
+      let w = x.2.0 in (
+        x.0,
+        x.1,
+        (
+          record { requests = w.requests; ending = w.ending; stream = w.stream; replies = w.replies; answered = so w.requests w.replies w.answered; last = w.last; ends = w.ends; output = w.output },
+          x.2.1,
+        ),
+      )
 
   pub some_so : (left left2 held held2 : Option (List ℕ)) → ServesSome answers left left2 held held2 → ServesSome answers2 left left2 held held2
   some_so left left2 held held2 said = λ input is.
@@ -25,8 +31,8 @@ module _ (answers answers2 : Said) (so : (qs : List Request) (rs : List Reply) �
       let w = x.2 in
       (x.0, x.1, record { requests = w.requests; rest = w.rest; begins = w.begins; replies = w.replies; answered = so w.requests w.replies w.answered; output = w.output })
 
-  pub until_so : (left held held2 : Option (List ℕ)) (n : ℕ) → ServesUntil answers left held held2 n → ServesUntil answers2 left held held2 n
-  until_so left held held2 n said = λ input is.
+  pub until_so : {S : Type 0} (left asked : S → Option (List ℕ)) (old new : S) (held held2 : Option (List ℕ)) (n : ℕ) → ServesUntil left asked old new answers held held2 n → ServesUntil left asked old new answers2 held held2 n
+  until_so left asked old new held held2 n said = λ input is.
       let x = said input is in
       let w = x.2 in
       (x.0, x.1, record { requests = w.requests; rest = w.rest; begins = w.begins; replies = w.replies; answered = so w.requests w.replies w.answered; before = w.before; last = w.last; cut = w.cut; within = w.within; output = w.output })

@@ -1,4 +1,6 @@
 pub mod Ended
+pub mod Patience
+pub mod Program
 pub mod Served
 pub mod Session
 pub mod Status

@@ -13,6 +13,7 @@ use Rattle.model.specs.World.{nobody}
 use Rattle.desk.specs.Stepping.{never}
 use Rattle.proxy_cli.specs.Ended.{TellsEnd}
 use Rattle.proxy_cli.specs.declared.ended.Ended.{Ended}
+use Rattle.proxy_cli.specs.Patience.{ReadsBefore, ReadsBehind, Took}
 use Rattle.proxy_cli.specs.Served.{Answering, Gateway, OrWant, closes, responses}
 use Rattle.proxy_cli.specs.Words.{advertise_of, plans_of, words_of}
 use Rattle.proxy_cli.specs.declared.words.Command.{Command}
@@ -57,14 +58,16 @@ SplitsLast n (q ∷ qs) [] before last = ⊥
 SplitsLast n (q ∷ []) (r ∷ rs) before last = (before ≡ []) × (last ≡ response_of r (closes n q))
 SplitsLast n (q ∷ q2 ∷ qs) (r ∷ rs) before last = (mid : List ℕ) × (before ≡ response_of r (closes n q) ++ mid) × SplitsLast (n + 1) (q2 ∷ qs) rs mid last
 
--- the response that was cut is that to the last request, or that to a bad place behind all requests, of which none closes
-abbrev pub IsCutResponse : List ℕ → List Request → List Reply → List ℕ → List ℕ → Type 0
-IsCutResponse rest requests replies before last =
-    SplitsLast 0 requests replies before last
-    ⊎ ((before ≡ responses 0 requests replies) × (is_closed requests ≡ false) × ((r : Reply) × IsBad rest r × ((said : Reply) × OrWant r said × (last ≡ response_of said true))))
+-- The response that was cut is that to the last request, and nothing was read once that was whole, or it is that to a bad place
+-- behind all requests, of which none closes.
+abbrev pub IsCutResponse : (whole behind : Type 0) → List ℕ → List Request → List Reply → List ℕ → List ℕ → Type 0
+IsCutResponse whole behind rest requests replies before last =
+    (SplitsLast 0 requests replies before last × whole)
+    ⊎ ((before ≡ responses 0 requests replies) × (is_closed requests ≡ false) × ((r : Reply) × IsBad rest r × ((said : Reply) × OrWant r said × (last ≡ response_of said true))) × behind)
 
--- a session whose write failed: n bytes of the last response were written, and its call has had its effect
-pub record CutOff (answers : List Request → List Reply → Type 0) (input written : List ℕ) (n : ℕ) : Type 0 where
+-- A session whose write failed: n bytes of the last response were written, and its call has had its effect. A body can't foresee which
+-- write fails, so whichever did, the request that it answers was read to its end by the last read before it.
+pub record CutOff {S : Type 0} (asked : S → Option (List ℕ)) (old new : S) (answers : List Request → List Reply → Type 0) (input written : List ℕ) (n : ℕ) : Type 0 where
   pub requests : List Request
   pub rest : List ℕ
   pub begins : Begins 0 input requests rest
@@ -72,18 +75,21 @@ pub record CutOff (answers : List Request → List Reply → Type 0) (input writ
   pub answered : answers requests replies
   pub before : List ℕ
   pub last : List ℕ
-  pub cut : IsCutResponse rest requests replies before last
+  pub cut : IsCutResponse (ReadsBefore asked old new input requests) (ReadsBehind asked old new input requests) rest requests replies before last
   pub within : n < length last
   pub output : written ≡ before ++ take n last
 
 -- What is said of a session whose source tells its input, into a sink that tells what it holds.
-abbrev pub ServesAll : (answers : List Request → List Reply → Type 0) → Option (List ℕ) → Option (List ℕ) → Option (List ℕ) → Type 0
-ServesAll answers left held held2 = (input : List ℕ) → left ≡ Some input → (written : List ℕ) × Appends held held2 written × Whole answers input written
+abbrev pub ServesAll : {S : Type 0} → (left asked : S → Option (List ℕ)) → S → S → (answers : List Request → List Reply → Type 0) → Option (List ℕ) → Option (List ℕ) → Type 0
+ServesAll left asked old new answers held held2 =
+    (input : List ℕ) → left old ≡ Some input
+    → (written : List ℕ) × Appends held held2 written × ((whole : Whole answers input written) × Took left asked old new input whole.requests whole.ending whole.stream.rest)
 
 -- The same, of a call that tells how the session ended.
-abbrev pub EndsSo : Ended → (answers : List Request → List Reply → Type 0) → Option (List ℕ) → Option (List ℕ) → Option (List ℕ) → Type 0
-EndsSo ended answers left held held2 =
-    (input : List ℕ) → left ≡ Some input → (written : List ℕ) × Appends held held2 written × ((whole : Whole answers input written) × TellsEnd ended whole.requests whole.ending)
+abbrev pub EndsSo : {S : Type 0} → Ended → (left asked : S → Option (List ℕ)) → S → S → (answers : List Request → List Reply → Type 0) → Option (List ℕ) → Option (List ℕ) → Type 0
+EndsSo ended left asked old new answers held held2 =
+    (input : List ℕ) → left old ≡ Some input
+    → (written : List ℕ) × Appends held held2 written × ((whole : Whole answers input written) × Took left asked old new input whole.requests whole.ending whole.stream.rest × TellsEnd ended whole.requests whole.ending)
 
 abbrev pub ServesSome : (answers : List Request → List Reply → Type 0) → Option (List ℕ) → Option (List ℕ) → Option (List ℕ) → Option (List ℕ) → Type 0
 ServesSome answers left left2 held held2 =
@@ -92,8 +98,8 @@ ServesSome answers left left2 held held2 =
 abbrev pub ServesFirst : (answers : List Request → List Reply → Type 0) → Option (List ℕ) → Option (List ℕ) → Option (List ℕ) → Type 0
 ServesFirst answers left held held2 = (input : List ℕ) → left ≡ Some input → (written : List ℕ) × Appends held held2 written × Starved answers input written
 
-abbrev pub ServesUntil : (answers : List Request → List Reply → Type 0) → Option (List ℕ) → Option (List ℕ) → Option (List ℕ) → ℕ → Type 0
-ServesUntil answers left held held2 n = (input : List ℕ) → left ≡ Some input → (written : List ℕ) × Appends held held2 written × CutOff answers input written n
+abbrev pub ServesUntil : {S : Type 0} → (left asked : S → Option (List ℕ)) → S → S → (answers : List Request → List Reply → Type 0) → Option (List ℕ) → Option (List ℕ) → ℕ → Type 0
+ServesUntil left asked old new answers held held2 n = (input : List ℕ) → left old ≡ Some input → (written : List ℕ) × Appends held held2 written × CutOff asked old new answers input written n
 
 -- the gateway at which a session begins: nobody is live, over an empty log of the words' topics
 abbrev pub first_gateway : Command → Hand → Gateway
@@ -104,16 +110,3 @@ first_gateway command hand = record { state = record { world = nobody; log = emp
 abbrev pub IsSession : List (List ℕ) → (ticks : Type 0) → Hand → Hand → ((answers : List Request → List Reply → Type 0) → Type 0) → Type 0
 IsSession words ticks hand hand2 says =
     (command : Command) × (words_of words ≡ Some command) × (t : Gateway) × (t.state.hand ≡ hand2) × says (Answering never 0 ⊤ ticks (advertise_of command) (first_gateway command hand) t)
-
--- the output is that of the whole input, of the bytes that a failing source gave, of first requests, or cut by a failing sink
-abbrev pub SessionServes : List (List ℕ) → (ticks : Type 0) → Hand → Hand → Option (List ℕ) → Option (List ℕ) → Option (List ℕ) → Type 0
-SessionServes words ticks hand hand2 left held held2 = IsSession words ticks hand hand2 (λ answers. ServesAll answers left held held2)
-
-abbrev pub SessionLoses : List (List ℕ) → (ticks : Type 0) → Hand → Hand → Option (List ℕ) → Option (List ℕ) → Option (List ℕ) → Option (List ℕ) → Type 0
-SessionLoses words ticks hand hand2 left left2 held held2 = IsSession words ticks hand hand2 (λ answers. ServesSome answers left left2 held held2)
-
-abbrev pub SessionStarves : List (List ℕ) → (ticks : Type 0) → Hand → Hand → Option (List ℕ) → Option (List ℕ) → Option (List ℕ) → Type 0
-SessionStarves words ticks hand hand2 left held held2 = IsSession words ticks hand hand2 (λ answers. ServesFirst answers left held held2)
-
-abbrev pub SessionCuts : List (List ℕ) → (ticks : Type 0) → Hand → Hand → Option (List ℕ) → Option (List ℕ) → Option (List ℕ) → Type 0
-SessionCuts words ticks hand hand2 left held held2 = IsSession words ticks hand hand2 (λ answers. (n : ℕ) × ServesUntil answers left held held2 n)

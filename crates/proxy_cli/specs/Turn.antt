@@ -31,8 +31,10 @@ EndsAs all Limit = ⊥
 EndsAs all (CutShort due) = (due ≡ false) × IsCut all
 EndsAs all (BadPlace due r) = (due ≡ false) × IsBad all r
 
--- there is no further request, for this reason
-pub record EndsHere (why : EndWhy) (all : List ℕ) (before now : Option (List ℕ)) : Type 0 where
+-- there is no further request, for this reason, and what is still to come stays
+pub record EndsHere (why : EndWhy) (all : List ℕ) (left : Option (List ℕ)) (before now : Option (List ℕ)) : Type 0 where
+  pub held : List ℕ
+  pub comes : Comes held left all
   pub ending : Ending
   pub is_why : IsWhy why ending
   pub ends : EndsAs all ending

@@ -1,7 +1,8 @@
 ghost use Rattle.std.specs.Prelude.{◌≡◌, ◌⊎◌, ℕ, List, Some, None, Result, map, string_bytes};
 ghost use Rattle.gate_io.specs.Counts.{Rose};
 ghost use Rattle.http_conn.specs.declared.request.ConnNo.TheVariants.{WriteFault, ReadFault, Want as WantConn};
-ghost use Rattle.proxy_cli.specs.Session.{SessionServes, SessionLoses, SessionStarves, SessionCuts};
+ghost use Rattle.proxy_cli.specs.Program.{SessionRan};
+ghost use Rattle.proxy_cli.specs.Session.{IsSession, ServesAll, ServesFirst, ServesSome, ServesUntil};
 ghost use Rattle.proxy_cli.specs.Status.{IsStatus, served_status};
 ghost use Rattle.proxy_cli.specs.Words.{advertise_of, plans_of, words_of};
 
@@ -56,11 +57,8 @@ fn status_of<E: Sink>(err: &mut E, served: Result<Ended, ConnNo>) -> u8
     }
 }
 
-/// Serves the requests of a source by the words of `session`, and answers the status: 0 where the
-/// input was read to its end, its limit or its first bad place, 2 where the words don't read, 3
-/// where the source failed, 4 where the sink failed or took nothing, 7 for want of memory. One line
-/// goes to `err` with each status but 0.
-pub fn run_session<S: Source, K: Sink, E: Sink, C: Clock>(
+/// Serves the requests of a source by the words of `session`, with the clauses of `SessionRan` one by one.
+fn serve_words<S: Source, K: Sink, E: Sink, C: Clock>(
     alloc: Global,
     words: &[String],
     src: &mut S,
@@ -68,15 +66,12 @@ pub fn run_session<S: Source, K: Sink, E: Sink, C: Clock>(
     err: &mut E,
     clock: &mut C,
 ) -> u8
-    // Every reply is that of its request in one legal run, each call once and in order.
-    ensures output { result ≡ 0 → SessionServes (map string_bytes words.now) (C.tells clock.old) (C.hand clock.old) (C.hand clock.new) (S.left src.old) (K.held sink.old) (K.held sink.new) }
+    ensures output { result ≡ 0 → IsSession (map string_bytes words.now) (C.tells clock.old) (C.hand clock.old) (C.hand clock.new) (λ answers. ServesAll S.left S.asked src.old src.new answers (K.held sink.old) (K.held sink.new)) }
 
-    // What stands where the source, the sink or memory failed.
-    ensures lost { result ≡ 3 → SessionLoses (map string_bytes words.now) (C.tells clock.old) (C.hand clock.old) (C.hand clock.new) (S.left src.old) (S.left src.new) (K.held sink.old) (K.held sink.new) }
-    ensures cut { result ≡ 4 → SessionCuts (map string_bytes words.now) (C.tells clock.old) (C.hand clock.old) (C.hand clock.new) (S.left src.old) (K.held sink.old) (K.held sink.new) }
-    ensures starved { result ≡ 7 → (sink.new ≡ sink.old) ⊎ SessionStarves (map string_bytes words.now) (C.tells clock.old) (C.hand clock.old) (C.hand clock.new) (S.left src.old) (K.held sink.old) (K.held sink.new) }
+    ensures lost { result ≡ 3 → IsSession (map string_bytes words.now) (C.tells clock.old) (C.hand clock.old) (C.hand clock.new) (λ answers. ServesSome answers (S.left src.old) (S.left src.new) (K.held sink.old) (K.held sink.new)) }
+    ensures cut { result ≡ 4 → IsSession (map string_bytes words.now) (C.tells clock.old) (C.hand clock.old) (C.hand clock.new) (λ answers. (n : ℕ) × ServesUntil S.left S.asked src.old src.new answers (K.held sink.old) (K.held sink.new) n) }
+    ensures starved { result ≡ 7 → (sink.new ≡ sink.old) ⊎ IsSession (map string_bytes words.now) (C.tells clock.old) (C.hand clock.old) (C.hand clock.new) (λ answers. ServesFirst answers (S.left src.old) (K.held sink.old) (K.held sink.new)) }
 
-    // Each status but 0 and 7 has its cause, and words that don't read leave all as it was.
     ensures words { result ≡ 2 → words_of (map string_bytes words.now) ≡ None }
     ensures unread { words_of (map string_bytes words.now) ≡ None → (result ≡ 2) ⊎ (result ≡ 7) }
     ensures untouched { words_of (map string_bytes words.now) ≡ None → (sink.new ≡ sink.old) × (src.new ≡ src.old) }
@@ -114,6 +109,23 @@ pub fn run_session<S: Source, K: Sink, E: Sink, C: Clock>(
     status_of(err, served)
 }
 
+/// Serves the requests of a source by the words of `session`, and answers the status: 0 where the
+/// input was read to its end, its limit or its first bad place, 2 where the words don't read, 3
+/// where the source failed, 4 where the sink failed or took nothing, 7 for want of memory. One line
+/// goes to `err` with each status but 0.
+pub fn run_session<S: Source, K: Sink, E: Sink, C: Clock>(
+    alloc: Global,
+    words: &[String],
+    src: &mut S,
+    sink: &mut K,
+    err: &mut E,
+    clock: &mut C,
+) -> u8
+    ensures session { SessionRan S.left S.asked S.faults K.held K.faults K.stalls C.tells C.hand (map string_bytes words.now) src.old src.new sink.old sink.new clock.old clock.new result }
+{
+    serve_words(alloc, words, src, sink, err, clock)
+}
+
 /// Runs the command that the words ask for: `session` alone, as `run_session` does.
 pub fn run<S: Source, K: Sink, E: Sink, C: Clock>(
     alloc: Global,
@@ -123,18 +135,7 @@ pub fn run<S: Source, K: Sink, E: Sink, C: Clock>(
     err: &mut E,
     clock: &mut C,
 ) -> u8
-    ensures output { result ≡ 0 → SessionServes (map string_bytes words.now) (C.tells clock.old) (C.hand clock.old) (C.hand clock.new) (S.left src.old) (K.held sink.old) (K.held sink.new) }
-
-    ensures lost { result ≡ 3 → SessionLoses (map string_bytes words.now) (C.tells clock.old) (C.hand clock.old) (C.hand clock.new) (S.left src.old) (S.left src.new) (K.held sink.old) (K.held sink.new) }
-    ensures cut { result ≡ 4 → SessionCuts (map string_bytes words.now) (C.tells clock.old) (C.hand clock.old) (C.hand clock.new) (S.left src.old) (K.held sink.old) (K.held sink.new) }
-    ensures starved { result ≡ 7 → (sink.new ≡ sink.old) ⊎ SessionStarves (map string_bytes words.now) (C.tells clock.old) (C.hand clock.old) (C.hand clock.new) (S.left src.old) (K.held sink.old) (K.held sink.new) }
-
-    ensures words { result ≡ 2 → words_of (map string_bytes words.now) ≡ None }
-    ensures unread { words_of (map string_bytes words.now) ≡ None → (result ≡ 2) ⊎ (result ≡ 7) }
-    ensures untouched { words_of (map string_bytes words.now) ≡ None → (sink.new ≡ sink.old) × (src.new ≡ src.old) }
-    ensures read { result ≡ 3 → Rose (S.faults src.old) (S.faults src.new) }
-    ensures write { result ≡ 4 → Rose (K.faults sink.old) (K.faults sink.new) ⊎ Rose (K.stalls sink.old) (K.stalls sink.new) }
-    ensures known { IsStatus result }
+    ensures session { SessionRan S.left S.asked S.faults K.held K.faults K.stalls C.tells C.hand (map string_bytes words.now) src.old src.new sink.old sink.new clock.old clock.new result }
 {
     run_session(alloc, words, src, sink, err, clock)
 }

@@ -6,8 +6,8 @@ ghost use Rattle.rest_codes.specs.Response.{response_of};
 ghost use Rattle.rest_codes.specs.declared.response.Reply.{Reply as AReply};
 ghost use Rattle.rest_codes.specs.declared.response.Reply.TheVariants.{Want as WantReply};
 ghost use Rattle.http_conn.specs.declared.request.ConnNo.TheVariants.{WriteFault, ReadFault, Want as WantConn};
-ghost use Rattle.http_conn.specs.Told.{Comes};
-ghost use Rattle.http_conn.specs.Next.{IsWaiting};
+ghost use Rattle.http_conn.specs.Told.{Comes, LastRead};
+ghost use Rattle.http_conn.specs.Next.{IsWaiting, NeedsMore};
 ghost use Rattle.proxy_cli.specs.Served.{Exchanges, ExchangesAll, IsKnown, OrWant};
 ghost use Rattle.proxy_cli.specs.declared.ended.EndWhy.{EndWhy as AWhy};
 ghost use Rattle.proxy_cli.specs.Session.{EndsSo, ServesSome, ServesFirst, ServesUntil};
@@ -120,13 +120,14 @@ fn serve_one<S: Source, K: Sink, L: Link + Drop, C: Clock>(
     requires { connection.old.over ≡ false }
     ensures served { result ≡ Ok None → IsKnown L.stand desk.old → (all : List ℕ) → Comes connection.old.held (S.left source.old) all
         → ServesOne (Exchanges L.stand C.tells C.hand desk.old clock.old desk.new clock.new) all connection.new (S.left source.new) (K.held sink.old) (K.held sink.new) close }
-    ensures ended { (why : AWhy) → result ≡ Ok (Some why) → (desk.new ≡ desk.old) × (clock.new ≡ clock.old) × ((all : List ℕ) → Comes connection.old.held (S.left source.old) all → EndsHere why all (K.held sink.old) (K.held sink.new)) }
+    ensures ended { (why : AWhy) → result ≡ Ok (Some why) → (desk.new ≡ desk.old) × (clock.new ≡ clock.old) × ((all : List ℕ) → Comes connection.old.held (S.left source.old) all → EndsHere why all (S.left source.new) (K.held sink.old) (K.held sink.new)) }
     ensures cut { (n : ℕ) → result ≡ Err (WriteFault n) → IsKnown L.stand desk.old → (all : List ℕ) → Comes connection.old.held (S.left source.old) all
         → CutsReply (Exchanges L.stand C.tells C.hand desk.old clock.old desk.new clock.new) n all (K.held sink.old) (K.held sink.new) close
         ⊎ (CutsRefusal n all (K.held sink.old) (K.held sink.new) × (desk.new ≡ desk.old) × (clock.new ≡ clock.old)) }
     ensures lost { result ≡ Err ReadFault → (desk.new ≡ desk.old) × (clock.new ≡ clock.old) × (sink.new ≡ sink.old)
         × ((all : List ℕ) → Comes connection.old.held (S.left source.old) all → Comes connection.new.held (S.left source.new) all × IsWaiting connection.new.held) }
     ensures starved { result ≡ Err WantConn → (desk.new ≡ desk.old) × (clock.new ≡ clock.old) × (sink.new ≡ sink.old) }
+    ensures patient { LastRead S.left S.asked connection.old.held source.old source.new NeedsMore }
 
     ensures read { result ≡ Err ReadFault → Rose (S.faults source.old) (S.faults source.new) }
     ensures write { (n : ℕ) → result ≡ Err (WriteFault n) → Rose (K.faults sink.old) (K.faults sink.new) ⊎ Rose (K.stalls sink.old) (K.stalls sink.new) }
@@ -166,9 +167,9 @@ pub fn serve_stream<S: Source, K: Sink, L: Link + Drop, C: Clock>(
     desk: &mut AloneDesk<L>,
     clock: &mut C,
 ) -> Result<Ended, ConnNo>
-    ensures output { IfOk result (λ ended. IsKnown L.stand desk.old → EndsSo ended (ExchangesAll L.stand C.tells C.hand desk.old clock.old desk.new clock.new) (S.left source.old) (K.held sink.old) (K.held sink.new)) }
+    ensures output { IfOk result (λ ended. IsKnown L.stand desk.old → EndsSo ended S.left S.asked source.old source.new (ExchangesAll L.stand C.tells C.hand desk.old clock.old desk.new clock.new) (K.held sink.old) (K.held sink.new)) }
     ensures lost { result ≡ Err ReadFault → IsKnown L.stand desk.old → ServesSome (ExchangesAll L.stand C.tells C.hand desk.old clock.old desk.new clock.new) (S.left source.old) (S.left source.new) (K.held sink.old) (K.held sink.new) }
-    ensures cut { (n : ℕ) → result ≡ Err (WriteFault n) → IsKnown L.stand desk.old → ServesUntil (ExchangesAll L.stand C.tells C.hand desk.old clock.old desk.new clock.new) (S.left source.old) (K.held sink.old) (K.held sink.new) n }
+    ensures cut { (n : ℕ) → result ≡ Err (WriteFault n) → IsKnown L.stand desk.old → ServesUntil S.left S.asked source.old source.new (ExchangesAll L.stand C.tells C.hand desk.old clock.old desk.new clock.new) (K.held sink.old) (K.held sink.new) n }
     ensures starved { result ≡ Err WantConn → IsKnown L.stand desk.old → ServesFirst (ExchangesAll L.stand C.tells C.hand desk.old clock.old desk.new clock.new) (S.left source.old) (K.held sink.old) (K.held sink.new) }
 
     ensures read { result ≡ Err ReadFault → Rose (S.faults source.old) (S.faults source.new) }

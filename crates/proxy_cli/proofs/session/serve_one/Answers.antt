@@ -1,15 +1,15 @@
-use Rattle.std.proofs.Common.{◌≡◌, ◌∙◌, Err, inl, refl, ap, sym, subst, Bool, true, false, []}
+use Rattle.std.proofs.Common.{◌≡◌, ◌∙◌, Err, inl, refl, ap, sym, subst, Bool, true, false, List, ℕ, []}
 use Rattle.std.specs.Io.KnownBytes.{Appends}
 use Rattle.http_conn.specs.declared.request.ConnNo.{ConnNo}
 use Rattle.http_conn.specs.declared.request.ConnNo.TheVariants.{WriteFault}
 use Rattle.http_conn.specs.Told.{Comes, Conn}
 use Rattle.http_conn.specs.Stream.{Ending}
-use Rattle.http_conn.specs.Stream.Ending.{CutShort, BadPlace}
+use Rattle.http_conn.specs.Stream.Ending.{End, CutShort, BadPlace}
 use Rattle.rest_codes.specs.Response.{response_of}
 use Rattle.proxy_cli.specs.Turn.{CutAt}
 use Rattle.proxy_cli.specs.Ended.{IsWhy}
 use Rattle.proxy_cli.specs.declared.ended.EndWhy.{EndWhy}
-use Rattle.proxy_cli.specs.declared.ended.EndWhy.TheVariants.{CutShort as InARequest, BadPlace as AtABadPlace}
+use Rattle.proxy_cli.specs.declared.ended.EndWhy.TheVariants.{End as AtTheEnd, CutShort as InARequest, BadPlace as AtABadPlace}
 use Rattle.proxy_cli.proofs.Wants.{nothing_appended}
 use Rattle.proxy_cli.proofs.session.serve_one.Goals as goal
 
@@ -48,6 +48,17 @@ returns-in-Ok-Ready-clause-cut g c = λ n e known all comes.
       cut = subst (λ (b : Bool). CutAt n (response_of said.0 b) (g.K.Sink.held c.args.sink.now) (g.K.Sink.held c.exchange.new.sink)) c.closes-close.ensures said.2;
     })
 
+pub returns-in-Ok-End-clause-ended : goal.returns-in-Ok-End-clause-ended
+returns-in-Ok-End-clause-ended g c = λ why e. (
+  refl,
+  refl,
+  λ all comes.
+      let given = rw c.in-Ok-End.field-0-is at (c.in-Ok-End.ensures.given c.requires) in
+      let front = given all comes in
+      let same : front.0 ≡ all = front.2.1 ∙ sym front.2.0 in
+      record { held = c.next.new.self.held; comes = subst (λ (l : List ℕ). Comes c.next.new.self.held (g.S.Source.left c.next.new.source) l) same front.1; ending = End; is_why = why_is why AtTheEnd End (cc e) tt; ends = front.2.0; last = []; is_last = refl; wrote = nothing_appended (g.K.Sink.held c.args.sink.now) },
+)
+
 pub returns-in-Ok-CutShort-clause-ended : goal.returns-in-Ok-CutShort-clause-ended
 returns-in-Ok-CutShort-clause-ended g c = λ why e. (
   refl,
@@ -55,7 +66,7 @@ returns-in-Ok-CutShort-clause-ended g c = λ why e. (
   λ all comes.
       let given = rw c.in-Ok-CutShort.field-0-is at (c.in-Ok-CutShort.ensures.given c.requires) in
       let front = given all comes in
-      record { ending = CutShort false; is_why = why_is why InARequest (CutShort false) (cc e) tt; ends = (refl, front.2.0); last = []; is_last = refl; wrote = nothing_appended (g.K.Sink.held c.args.sink.now) },
+      record { held = c.next.new.self.held; comes = subst (λ (l : List ℕ). Comes c.next.new.self.held (g.S.Source.left c.next.new.source) l) front.2.1 front.1; ending = CutShort false; is_why = why_is why InARequest (CutShort false) (cc e) tt; ends = (refl, front.2.0); last = []; is_last = refl; wrote = nothing_appended (g.K.Sink.held c.args.sink.now) },
 )
 
 pub returns-in-Ok-refuse-clause-ended : goal.returns-in-Ok-refuse-clause-ended
@@ -66,5 +77,5 @@ returns-in-Ok-refuse-clause-ended g c = λ why e. (
       let given = rw c.in-Ok-Bad.field-0-is at (c.in-Ok-Bad.ensures.given c.requires) in
       let front = given all comes in
       let said = c.in-Ok-refuse.ensures.wrote in
-      record { ending = BadPlace false c.in-Ok-Bad.reply; is_why = why_is why AtABadPlace (BadPlace false c.in-Ok-Bad.reply) (cc e) tt; ends = (refl, front.2.0); last = response_of said.0 true; is_last = (said.0, said.1, refl); wrote = said.2 },
+      record { held = c.next.new.self.held; comes = subst (λ (l : List ℕ). Comes c.next.new.self.held (g.S.Source.left c.next.new.source) l) front.2.1 front.1; ending = BadPlace false c.in-Ok-Bad.reply; is_why = why_is why AtABadPlace (BadPlace false c.in-Ok-Bad.reply) (cc e) tt; ends = (refl, front.2.0); last = response_of said.0 true; is_last = (said.0, said.1, refl); wrote = said.2 },
 )

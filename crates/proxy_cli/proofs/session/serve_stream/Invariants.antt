@@ -10,7 +10,7 @@ invariant-loop-count g l = record {
   goes : Goes (g.L.Link.stand l.fn.desk.shard.link) (g.L.Link.stand l.desk.shard.link);
   ticking : g.C.Clock.tells l.fn.clock → g.C.Clock.tells l.clock;
   progress : IsKnown g.L.Link.stand l.fn.desk → (input : List ℕ) → g.S.Source.left l.fn.source ≡ Some input
-      → Progress (ExchangesAll g.L.Link.stand g.C.Clock.tells g.C.Clock.hand l.fn.desk l.fn.clock l.desk l.clock) input (g.K.Sink.held l.fn.sink) (g.K.Sink.held l.sink) l.count l.connection (g.S.Source.left l.source);
+      → Progress g.S.Source.left g.S.Source.asked l.fn.source l.source (ExchangesAll g.L.Link.stand g.C.Clock.tells g.C.Clock.hand l.fn.desk l.fn.clock l.desk l.clock) input (g.K.Sink.held l.fn.sink) (g.K.Sink.held l.sink) l.count l.connection;
   reads : g.S.Source.faults l.fn.source ≤ g.S.Source.faults l.source;
   faults : g.K.Sink.faults l.fn.sink ≤ g.K.Sink.faults l.sink;
   stalls : g.K.Sink.stalls l.fn.sink ≤ g.K.Sink.stalls l.sink;
