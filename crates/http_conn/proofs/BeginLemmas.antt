@@ -1,17 +1,19 @@
 -- The requests that bytes begin with, one more of them, and those that stand in the front of the bytes.
-use Rattle.std.proofs.Common.{◌≡◌, ℕ, ◌+◌, ◌<◌, List, [], ◌∷◌, ◌++◌, length, refl, ap, sym, subst, ◌∙◌, arith, append_assoc}
+use Rattle.std.proofs.Common.{◌≡◌, ℕ, ◌+◌, ◌<◌, false, List, [], ◌∷◌, ◌++◌, length, refl, ap, sym, subst, ◌∙◌, arith, append_assoc}
 use Rattle.std.proofs.lemmas.List.{append_cancel_right}
 use Rattle.httparse.specs.Grammar.{print_request}
-use Rattle.http_conn.specs.Stream.{Begins, IsRequest, max_requests}
+use Rattle.http_conn.specs.Stream.{Begins, IsRequest, is_closed, max_requests}
 use Rattle.http_conn.specs.declared.request.Request.{Request}
 
--- one more request behind those that were read
+-- one more request behind those that were read, of which the last doesn't close
 pub begins_push : (n : ℕ) (bytes : List ℕ) (rs : List Request) (mid : List ℕ) (r : Request) (rest : List ℕ)
-    → Begins n bytes rs mid → n + length rs < max_requests → IsRequest mid r rest → Begins n bytes (rs ++ r ∷ []) rest
-begins_push n bytes [] mid r rest begins few is =
-    (omega arith, (rest, subst (λ (l : List ℕ). IsRequest l r rest) (sym begins) is, refl))
-begins_push n bytes (q ∷ qs) mid r rest begins few is =
-    (begins.0, (begins.1.0, begins.1.1, begins_push (n + 1) begins.1.0 qs mid r rest begins.1.2 (omega (arith, length_is q qs)) is))
+    → Begins n bytes rs mid → n + length rs < max_requests → is_closed rs ≡ false → IsRequest mid r rest → Begins n bytes (rs ++ r ∷ []) rest
+begins_push n bytes [] mid r rest begins few still is =
+    ((omega arith, tt), (rest, subst (λ (l : List ℕ). IsRequest l r rest) (sym begins) is, refl))
+begins_push n bytes (q ∷ []) mid r rest begins few still is =
+    ((begins.0.0, still), (begins.1.0, begins.1.1, begins_push (n + 1) begins.1.0 [] mid r rest begins.1.2 (omega arith) refl is))
+begins_push n bytes (q ∷ p ∷ qs) mid r rest begins few still is =
+    ((begins.0.0, begins.0.1), (begins.1.0, begins.1.1, begins_push (n + 1) begins.1.0 (p ∷ qs) mid r rest begins.1.2 (omega (arith, length_is q (p ∷ qs))) still is))
   where
     length_is : (q : Request) (qs : List Request) → length (q ∷ qs) ≡ length qs + 1
     length_is q qs = omega arith
@@ -30,7 +32,6 @@ request_front got held tail r is =
       head = is.head;
       after = r.body ++ held;
       at = record { reads = (is.at.reads.0, front ∙ append_assoc (print_request is.head) r.body held); short = is.at.short };
-      few = is.few;
       size = is.size;
       body = refl;
       method = is.method;

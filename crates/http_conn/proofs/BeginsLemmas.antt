@@ -18,7 +18,6 @@ begins_cut n all (r ∷ rs) h l begins =
       head = is.head;
       after = r.body ++ rest.0;
       at = record { reads = (is.at.reads.0, refl); short = is.at.short };
-      few = is.few;
       size = is.size;
       body = refl;
       method = is.method;

@@ -1,6 +1,6 @@
 -- The values of a name, field by field, and the digits of a size.
 use Rattle.std.proofs.Common.{◌≡◌, ℕ, ◌+◌, ◌-◌, ◌*◌, ◌<◌, min, Bool, true, false, List, [], ◌∷◌, ◌++◌, length, take, get_or, map, refl, ap, sym, ◌∙◌, arith, append_assoc, inl, inr}
-use Rattle.std.specs.Prelude.{filter, ◌⊎◌, ◌||◌}
+use Rattle.std.specs.Prelude.{filter, ◌⊎◌, ◌||◌, Result, Ok, Err, not, nat_lt, if◌then◌else◌}
 use Rattle.std.specs.List.{list_all}
 use Rattle.std.specs.Str.Parse.{digits_value}
 use Rattle.std.specs.Char.{digit_value, is_ascii_digit}
@@ -12,7 +12,8 @@ use Rattle.httparse.specs.declared.spans.HeaderSpan.{HeaderSpan}
 use Rattle.httparse.specs.Spans.{header_bytes}
 use Rattle.std.proofs.Common.{Some, codes}
 use Rattle.std.specs.List.{list_any}
-use Rattle.http_conn.specs.Fields.{values_of, is_named, joined_from}
+use Rattle.http_conn.specs.Asked.{is_served}
+use Rattle.http_conn.specs.Fields.{values_of, is_named, joined_from, frame_of, max_fields, is_hosted}
 use Rattle.http_conn.specs.Parts.{JoinedIs}
 
 -- a digit's value
@@ -84,3 +85,15 @@ pub codings_more : (p : List ℕ → Bool) (name buf : List ℕ) (headers : List
 codings_more p name buf headers i d below =
     ap (list_any p) (values_more name buf headers i d below)
     ∙ list_any-append p (values_of name (map (header_bytes buf) (take i headers))) (values_of name (header_bytes buf (get_or headers i d) ∷ []))
+
+-- a size behind three tests says that the third was passed
+third_passed : (a b c : Bool) (rest : Result ℕ ℕ) (size : ℕ) → (if a then Err 431 else if not b then Err 400 else if not c then Err 400 else rest) ≡ Ok size → c ≡ true
+third_passed a b true rest size is = refl
+third_passed true b false rest size is = absurd (cc is)
+third_passed false true false rest size is = absurd (cc is)
+third_passed false false false rest size is = absurd (cc is)
+
+-- the target of a head that isn't refused is one that is served
+pub framed_target : (minor : ℕ) (target : List ℕ) (fields : List (List ℕ × List ℕ)) (size : ℕ) → frame_of minor target fields ≡ Ok size → is_served target ≡ true
+unfolding frame_of
+framed_target minor target fields size is = third_passed (nat_lt max_fields (length fields)) (is_hosted minor fields) (is_served target) _ size is

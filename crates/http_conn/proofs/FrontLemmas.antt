@@ -11,13 +11,13 @@ use Rattle.http_conn.specs.declared.request.ConnNo.{ConnNo}
 use Rattle.http_conn.proofs.StreamLemmas.{comes_split, bad-append}
 
 -- the answer at a bad place
-pub bad_given : (held0 held : List ℕ) (left0 left : Option (List ℕ)) (result : Result Next ConnNo)
-    → IfOk result (λ n. n ≡ next.Bad (refusal_of 400))
-    → IsBadPlace held → ((all : List ℕ) → Comes held0 left0 all → Comes held left all)
+pub bad_given : (held0 held : List ℕ) (left0 left : Option (List ℕ)) (result : Result Next ConnNo) (code : ℕ)
+    → IfOk result (λ n. n ≡ next.Bad (refusal_of code))
+    → IsBadPlace held code → ((all : List ℕ) → Comes held0 left0 all → Comes held left all)
     → IfOk result (λ n. (all : List ℕ) → Comes held0 left0 all → (rest : List ℕ) × Comes held left rest × Gives all n rest)
-bad_given held0 held left0 left (Err e) is place same = tt
-bad_given held0 held left0 left (Ok n) is place same = λ all comes.
+bad_given held0 held left0 left (Err e) code is place same = tt
+bad_given held0 held left0 left (Ok n) code is place same = λ all comes.
     let now = same all comes in
     let parts = comes_split held left all now in
-    let bad : IsBadPlace all = subst (λ (l : List ℕ). IsBadPlace l) (sym parts.2) (bad-append held parts.0 place) in
-    (all, now, subst (λ (m : Next). Gives all m all) (sym is) ((bad, refl), refl))
+    let bad : IsBadPlace all code = subst (λ (l : List ℕ). IsBadPlace l code) (sym parts.2) (bad-append held parts.0 code place) in
+    (all, now, subst (λ (m : Next). Gives all m all) (sym is) ((code, bad, refl), refl))

@@ -1,4 +1,6 @@
 pub mod BeginsLemmas
+pub mod MemberLemmas
+pub mod AskedLemmas
 pub mod FieldLemmas
 pub mod BufferLemmas
 pub mod StreamLemmas

@@ -8,7 +8,7 @@ use Rattle.http_conn.specs.Stream.{IsRequest, frame}
 use Rattle.http_conn.specs.Parts.{IsHead}
 use Rattle.http_conn.specs.declared.judge.Head.{Head}
 use Rattle.http_conn.specs.declared.request.Request.{Request}
-use Rattle.http_conn.proofs.LawLemmas.{some_same}
+use Rattle.http_conn.proofs.LawLemmas.{size_same}
 
 -- no request was held at first, or nothing was read yet
 abbrev pub IsPrompt : {X : Type 0} → List ℕ → List ℕ → X → X → Type 0
@@ -28,7 +28,7 @@ pub whole_held : (held old : List ℕ) (headers : List HeaderSpan) (h : Head) (r
 whole_held held old headers h r rest head same is =
     let here : IsRequest held r rest = subst (λ (l : List ℕ). IsRequest l r rest) (sym same) is in
     let one = request_unique held head.head here.head _ here.after head.at.reads here.at.reads in
-    let size : h.size ≡ length r.body = some_same h.size (length r.body) (sym head.size ∙ ap frame one.0 ∙ here.size) in
+    let size : h.size ≡ length r.body = size_same (frame head.head) h.size (length r.body) head.size (ap frame one.0 ∙ here.size) in
     let len : h.spans.len ≡ length (print_request here.head) = head.at.len ∙ ap (λ (k : RequestHead). length (print_request k)) one.0 in
     let whole : length held ≡ length (print_request here.head) + length here.after = ap length here.at.reads.1 ∙ length-append (print_request here.head) here.after in
     let after : length here.after ≡ length r.body + length rest = ap length here.body ∙ length-append r.body rest in

@@ -1,11 +1,11 @@
 -- What holds of the bytes at hand holds of all that is still to come.
 use Rattle.std.proofs.Common.{◌≡◌, ℕ, ◌+◌, ◌-◌, ◌<◌, ◌≤◌, List, [], ◌∷◌, ◌++◌, length, take, drop, map, Option, None, Some, refl, ap, sym, subst, ◌∙◌, arith, append_assoc, length-append, length-drop, length-take, inl, inr}
-use Rattle.std.specs.Prelude.{◌⊎◌, All}
+use Rattle.std.specs.Prelude.{All}
 use Rattle.std.proofs.lemmas.List.{take-append-le, drop-append-le, take-append-drop, append-nil}
 use Rattle.std.proofs.lemmas.List.Elements.{All-head, All-tail}
 use Rattle.std.proofs.Math.Seq.{take-append_seam}
 use Rattle.std.specs.Io.KnownBytes.{prepend_known, IsAtEnd}
-use Rattle.httparse.specs.Grammar.{RequestHead, ReadsRequest, print_request, HasNoRequest, NeverHasRequest}
+use Rattle.httparse.specs.Grammar.{RequestHead, ReadsRequest, print_request, HasNoRequest, NeverHasRequest, MayBecomeRequest}
 use Rattle.httparse.specs.Spans.{IsRequestAt, IsRequestWithin, IsHeaderWithin, header_bytes, span_bytes, IsWithin}
 use Rattle.httparse.specs.declared.spans.Span.{Span}
 use Rattle.httparse.specs.declared.spans.HeaderSpan.{HeaderSpan}
@@ -15,6 +15,7 @@ use Rattle.http_conn.specs.Parts.{IsHead, IsLost}
 use Rattle.http_conn.specs.declared.judge.Head.{Head}
 use Rattle.http_conn.specs.Told.{Comes}
 use Rattle.http_conn.specs.declared.request.Request.{Request}
+use Rattle.http_conn.proofs.LawLemmas.{front_of, lost_may_not}
 
 -- all that comes is what is held and what is left
 pub comes_split : (held : List ℕ) (left : Option (List ℕ)) (all : List ℕ) → Comes held left all
@@ -92,7 +93,6 @@ IsHead-append buf more headers h is = record {
     };
   };
   short = is.short;
-  few = is.few;
   size = is.size;
   size_fits = is.size_fits;
 }
@@ -101,8 +101,8 @@ IsHead-append buf more headers h is = record {
 pub head_of : (buf : List ℕ) (headers : List HeaderSpan) (h : Head) → (is : IsHead buf headers h) → HasHead buf is.head (drop h.spans.len buf)
 head_of buf headers h is = record { reads = is.at.reads; short = omega (arith, is.at.len, is.short) }
 
-pub IsRefused-append : (buf more : List ℕ) → IsRefused buf → IsRefused (buf ++ more)
-IsRefused-append buf more is = record { head = is.head; after = is.after ++ more; at = HasHead-append buf more is.head is.after is.at; why = is.why }
+pub IsRefused-append : (buf more : List ℕ) (code : ℕ) → IsRefused buf code → IsRefused (buf ++ more) code
+IsRefused-append buf more code is = record { head = is.head; after = is.after ++ more; at = HasHead-append buf more is.head is.after is.at; why = is.why }
 
 pub IsHopeless-append : (buf more : List ℕ) → IsHopeless buf → IsHopeless (buf ++ more)
 IsHopeless-append buf more is = record {
@@ -119,11 +119,30 @@ pub no_head-append : (held rest : List ℕ) → max_head ≤ length held → Has
 no_head-append held rest long none = λ head after at.
     none head (drop (length (print_request head)) held) (HasHead-front held rest head after at (omega (arith, at.short)))
 
+-- a front of all bytes that isn't longer than those held is a front of these
+pub hopeless_front : (held rest : List ℕ) → max_head ≤ length held + 1 → IsHopeless (held ++ rest) → IsHopeless held
+hopeless_front held rest long is = record {
+  front = is.front;
+  behind = take (length held - length is.front) is.behind;
+  parts = front_of held rest is.front is.behind is.parts (omega (arith, is.short));
+  short = is.short;
+  never = is.never;
+  decided = is.decided;
+}
+
 -- a bad place stays one, whatever follows
-pub bad-append : (held rest : List ℕ) → IsBadPlace held → IsBadPlace (held ++ rest)
-bad-append held rest (inl found) = inl (IsRefused-append held rest found)
-bad-append held rest (inr (inl full)) = inr (inl (omega (arith, full.0, length-append held rest), no_head-append held rest full.0 full.1))
-bad-append held rest (inr (inr hopeless)) = inr (inr (IsHopeless-append held rest hopeless))
+pub bad-append : (held rest : List ℕ) (code : ℕ) → IsBadPlace held code → IsBadPlace (held ++ rest) code
+bad-append held rest code (inl found) = inl (IsRefused-append held rest code found)
+bad-append held rest code (inr (inl full)) =
+    inr (inl (
+      record {
+        long = omega (arith, full.0.long, length-append held rest);
+        none = no_head-append held rest full.0.long full.0.none;
+        hope = λ lost. full.0.hope (hopeless_front held rest (omega (arith, full.0.long)) lost);
+      },
+      full.1,
+    ))
+bad-append held rest code (inr (inr hopeless)) = inr (inr (IsHopeless-append held rest hopeless.0, hopeless.1))
 
 pub no_request_no_head : (buf : List ℕ) → HasNoRequest buf → HasNoHead buf
 no_request_no_head buf none = λ head after at. none head after at.reads
@@ -131,25 +150,53 @@ no_request_no_head buf none = λ head after at. none head after at.reads
 pub never_none : (buf : List ℕ) → NeverHasRequest buf → HasNoRequest buf
 never_none buf never = subst (λ (l : List ℕ). HasNoRequest l) (append-nil buf) (never [])
 
--- the front of the held bytes, where that is as long as a head may be
-pub full_bad : (held : List ℕ) → max_head ≤ length held → HasNoRequest (take max_head held) → IsBadPlace held
-full_bad held long none =
+-- the front of the held bytes has no head, and is as long as a head may be
+pub full_none : (held : List ℕ) → max_head ≤ length held → HasNoRequest (take max_head held) → HasNoHead held
+full_none held long none =
     let front : List ℕ = take max_head held in
     let whole : front ++ drop max_head held ≡ held = take-append-drop max_head held in
     let n : max_head ≤ length front = omega (arith, length-take {A = ℕ} max_head held) in
-    inr (inl (long, subst (λ (l : List ℕ). HasNoHead l) whole (no_head-append front (drop max_head held) n (no_request_no_head front none))))
+    subst (λ (l : List ℕ). HasNoHead l) whole (no_head-append front (drop max_head held) n (no_request_no_head front none))
 
--- the same, judged bad
-pub full_judged_bad : (held : List ℕ) → max_head ≤ length held → IsRefused (take max_head held) ⊎ IsLost (take max_head held) → IsBadPlace held
-full_judged_bad held long (inl refused) = inl (subst (λ (l : List ℕ). IsRefused l) (take-append-drop max_head held) (IsRefused-append (take max_head held) (drop max_head held) refused))
-full_judged_bad held long (inr lost) = full_bad held long (never_none (take max_head held) lost.0)
+-- the same, refused
+pub full_refused : (held : List ℕ) (code : ℕ) → IsRefused (take max_head held) code → IsBadPlace held code
+full_refused held code refused = inl (subst (λ (l : List ℕ). IsRefused l code) (take-append-drop max_head held) (IsRefused-append (take max_head held) (drop max_head held) code refused))
+
+-- what is lost, and shorter than the longest head
+pub lost_bad : (held : List ℕ) → length held < max_head → IsLost held → IsBadPlace held 400
+lost_bad held short lost =
+    inr (inr (record { front = held; behind = []; parts = sym (append-nil held); short = short; never = lost.0; decided = lost.1 }, refl))
+
+-- a front that is lost
+pub front_lost : (held : List ℕ) (n : ℕ) → n < max_head → IsLost (take n held) → IsBadPlace held 400
+front_lost held n short lost =
+    let below : length (take n held) < max_head = omega (arith, length-take {A = ℕ} n held) in
+    subst (λ (l : List ℕ). IsBadPlace l 400) (take-append-drop n held) (bad-append (take n held) (drop n held) 400 (lost_bad (take n held) below lost))
+
+-- no head, and each front may become one
+pub front_open : (held : List ℕ) (n : ℕ) → n + 1 ≡ max_head → max_head ≤ length held → HasNoHead held → MayBecomeRequest (take n held) → IsBadPlace held 431
+front_open held n size long none may =
+    let whole : take n held ++ drop n held ≡ held = take-append-drop n held in
+    let front : max_head ≤ length (take n held) + 1 = omega (arith, size, length-take {A = ℕ} n held) in
+    inr (inl (
+      record {
+        long = long;
+        none = none;
+        hope = λ lost. lost_may_not (take n held) (hopeless_front (take n held) (drop n held) front (subst (λ (l : List ℕ). IsHopeless l) (sym whole) lost)) may;
+      },
+      refl,
+    ))
+
+-- a head of a front is one of the whole
+pub front_has_head : (held : List ℕ) (n : ℕ) (head : RequestHead) (after : List ℕ) → HasNoHead held → HasHead (take n held) head after → ⊥
+front_has_head held n head after none at =
+    none head (after ++ drop n held) (subst (λ (l : List ℕ). HasHead l head (after ++ drop n held)) (take-append-drop n held) (HasHead-append (take n held) (drop n held) head after at))
 
 pub IsRequest-append : (buf rest more : List ℕ) (r : Request) → IsRequest buf r rest → IsRequest (buf ++ more) r (rest ++ more)
 IsRequest-append buf rest more r is = record {
   head = is.head;
   after = is.after ++ more;
   at = HasHead-append buf more is.head is.after is.at;
-  few = is.few;
   size = is.size;
   body = ap (λ (l : List ℕ). l ++ more) is.body ∙ append_assoc r.body rest more;
   method = is.method;
@@ -172,7 +219,6 @@ cut_in_body held headers h is short = inl (record {
   after = drop h.spans.len held;
   size = h.size;
   at = head_of held headers h is;
-  few = is.few;
   told = is.size;
   cut = omega (arith, is.within.section.len_fits, length-drop h.spans.len held);
 })

@@ -1,9 +1,11 @@
 -- The fields of a head, and the size of the body that they tell (RFC 9110, section 5; RFC 9112, section 6).
-use Rattle.std.specs.Prelude.{ℕ, List, [], ◌∷◌, length, map, filter, Option, Some, None, Bool, true, false, ◌&&◌, ◌==◌, ◌++◌, not, nat_le, nat_lt, if◌then◌else◌, codes}
-use Rattle.std.specs.List.{list_all}
+use Rattle.std.specs.Prelude.{ℕ, List, [], ◌∷◌, length, map, filter, Option, Some, None, Result, Ok, Err, Bool, true, false, ◌&&◌, ◌||◌, ◌==◌, ◌++◌, not, nat_le, nat_lt, if◌then◌else◌, codes}
+use Rattle.std.specs.List.{list_all, list_any}
 use Rattle.std.specs.Str.{bytes_eq}
 use Rattle.std.specs.Str.Parse.{digits_value}
 use Rattle.std.specs.Char.{to_ascii_lowercase, is_ascii_digit}
+use Rattle.http_conn.specs.Member.{has_member}
+use Rattle.http_conn.specs.Asked.{is_served}
 
 -- the field has this name, without ASCII case
 abbrev pub is_named : List ℕ → List ℕ × List ℕ → Bool
@@ -36,21 +38,51 @@ is_encoding v = not (bytes_eq (map to_ascii_lowercase v) (codes "identity"))
 abbrev pub max_body : ℕ
 max_body = 8388608
 
--- one decimal number up to the largest body
-abbrev pub size_in : List ℕ → Option ℕ
+-- the size that one value tells, or its refusal: 400 where it isn't decimal digits, 413 where it is above the largest
+abbrev pub size_in : List ℕ → Result ℕ ℕ
 size_in digits =
-    if nat_lt 0 (length digits) && list_all is_ascii_digit digits && nat_le (digits_value 10 digits) max_body
-    then Some (digits_value 10 digits) else None
+    if not (nat_lt 0 (length digits) && list_all is_ascii_digit digits) then Err 400 else
+    if nat_le (digits_value 10 digits) max_body then Ok (digits_value 10 digits) else Err 413
 
 -- the size that the values of Content-Length tell
-abbrev pub size_of : List (List ℕ) → Option ℕ
-size_of [] = Some 0
+abbrev pub size_of : List (List ℕ) → Result ℕ ℕ
+size_of [] = Ok 0
 size_of (v ∷ []) = size_in v
-size_of (v ∷ w ∷ vs) = None
+size_of (v ∷ w ∷ vs) = Err 400
 
--- the size of the body under the framing that is served: HTTP/1.1, no Transfer-Encoding, Expect or Connection
-unfoldable pub frame_of : ℕ → List (List ℕ × List ℕ) → Option ℕ
-frame_of minor fields =
-    if minor == 1 && is_absent (values_of (codes "transfer-encoding") fields) && is_absent (values_of (codes "expect") fields)
-    && is_absent (values_of (codes "connection") fields)
-    then size_of (values_of (codes "content-length") fields) else None
+-- there is one field of that name
+abbrev pub is_single : List (List ℕ) → Bool
+is_single [] = false
+is_single (v ∷ []) = true
+is_single (v ∷ w ∷ vs) = false
+
+-- the hosts are as the version asks: HTTP/1.1 has one Host field
+abbrev pub is_hosted : ℕ → List (List ℕ × List ℕ) → Bool
+is_hosted minor fields = minor == 0 || is_single (values_of (codes "host") fields)
+
+-- the expectation is that of the interim response
+abbrev pub is_interim : List ℕ → Bool
+is_interim v = bytes_eq (map to_ascii_lowercase v) (codes "100-continue")
+
+-- an HTTP/1.1 request asks for the interim response before its body
+abbrev pub asks_interim : ℕ → List (List ℕ × List ℕ) → Bool
+asks_interim minor fields = not (minor == 0) && list_any is_interim (values_of (codes "expect") fields)
+
+-- the client closes: HTTP/1.0, or a Connection field has the member `close`
+abbrev pub asks_close : ℕ → List (List ℕ × List ℕ) → Bool
+asks_close minor fields = minor == 0 || list_any (has_member (codes "close")) (values_of (codes "connection") fields)
+
+-- the most fields of a head
+abbrev pub max_fields : ℕ
+max_fields = 64
+
+-- The size of the body that a head tells, or the status that refuses it: the tests stand in their order. No body in chunks is
+-- served, and none behind the interim response.
+unfoldable pub frame_of : ℕ → List ℕ → List (List ℕ × List ℕ) → Result ℕ ℕ
+frame_of minor target fields =
+    if nat_lt max_fields (length fields) then Err 431 else
+    if not (is_hosted minor fields) then Err 400 else
+    if not (is_served target) then Err 400 else
+    if not (is_absent (values_of (codes "transfer-encoding") fields)) then Err 400 else
+    if asks_interim minor fields then Err 400 else
+    size_of (values_of (codes "content-length") fields)

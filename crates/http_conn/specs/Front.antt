@@ -10,6 +10,6 @@ use Rattle.http_conn.specs.declared.connection.Front.TheVariants.{Whole, Bad, Cu
 -- the front is what was found
 abbrev pub FrontIs : List ℕ → List HeaderSpan → Option (List ℕ) → Front → Type 0
 FrontIs held headers left (Whole head) = IsHead held headers head
-FrontIs held headers left Bad = IsBadPlace held
+FrontIs held headers left (Bad code) = IsBadPlace held code
 FrontIs held headers left Cut = IsCutHead held × IsAtEnd left
 FrontIs held headers left End = (held ≡ []) × IsAtEnd left

@@ -1,4 +1,6 @@
 pub mod Told
+pub mod Member
+pub mod Asked
 pub mod Fields
 pub mod Stream
 pub mod Next

@@ -41,8 +41,10 @@ NeedsMore held = IsWaiting held ⊎ (((start : List ℕ) × IsHeadless start × 
 abbrev pub IsInHead : List ℕ → List ℕ → Type 0
 IsInHead start held = IsInLine start held × (length held < max_head)
 
--- more may come behind it
-abbrev pub is_open : Next → Bool
-is_open (Ready request) = true
-is_open Continue = true
-is_open _ = false
+-- nothing comes behind it: a request that closes is the last one
+abbrev pub is_last : Next → Bool
+is_last (Ready request) = request.close
+is_last Continue = false
+is_last End = true
+is_last CutShort = true
+is_last (Bad reply) = true

@@ -1,16 +1,16 @@
 -- What the steps of reading a request say.
-use Rattle.std.specs.Prelude.{◌≡◌, ℕ, ◌≤◌, ◌⊎◌, List, [], ◌∷◌, length, Some, Bool, true, false}
+use Rattle.std.specs.Prelude.{◌≡◌, ℕ, ◌≤◌, List, [], ◌∷◌, length, Some, Ok, Bool, true, false}
 use Rattle.httparse.specs.Grammar.{RequestHead, NeverHasRequest, EndsInTarget, MayBecomeRequest, HasNoRequest}
 use Rattle.httparse.specs.Spans.{IsRequestAt, IsRequestWithin, span_bytes, IsWithin}
 use Rattle.httparse.specs.declared.spans.Span.{Span}
 use Rattle.httparse.specs.declared.spans.HeaderSpan.{HeaderSpan}
 use Rattle.http_conn.specs.Fields.{max_body, joined}
-use Rattle.http_conn.specs.Stream.{frame, max_fields, max_head, IsRefused}
+use Rattle.http_conn.specs.Stream.{frame, max_head, IsRefused}
 use Rattle.http_conn.specs.declared.fields.Found.{Found}
 use Rattle.http_conn.specs.declared.fields.Found.TheVariants.{Absent, One, Several}
 use Rattle.http_conn.specs.declared.judge.Head.{Head}
 use Rattle.http_conn.specs.declared.judge.Verdict.{Verdict}
-use Rattle.http_conn.specs.declared.judge.Verdict.TheVariants.{Whole, Unfinished, Bad}
+use Rattle.http_conn.specs.declared.judge.Verdict.TheVariants.{Whole, Unfinished, Refused, Lost}
 
 -- room for the fields of every head: a field line has three bytes at least
 abbrev pub max_spans : ℕ
@@ -27,6 +27,12 @@ abbrev pub found_absent : Found → Bool
 found_absent Absent = true
 found_absent (One span) = false
 found_absent Several = false
+
+-- one was found
+abbrev pub found_single : Found → Bool
+found_single Absent = false
+found_single (One span) = true
+found_single Several = false
 
 -- what is found with one value more
 abbrev pub more_found : Found → Span → Found
@@ -45,8 +51,7 @@ pub record IsHead (buf : List ℕ) (headers : List HeaderSpan) (h : Head) : Type
   pub at : IsRequestAt buf headers h.spans head
   pub within : IsRequestWithin buf headers h.spans
   pub short : h.spans.len ≤ max_head
-  pub few : length head.fields ≤ max_fields
-  pub size : frame head ≡ Some h.size
+  pub size : frame head ≡ Ok h.size
   pub size_fits : h.size ≤ max_body
 
 -- bytes that can't become a head, and don't end inside a target
@@ -57,4 +62,5 @@ IsLost buf = NeverHasRequest buf × (EndsInTarget buf → ⊥)
 abbrev pub Judges : List ℕ → List HeaderSpan → Verdict → Type 0
 Judges buf headers (Whole h) = IsHead buf headers h
 Judges buf headers Unfinished = HasNoRequest buf × MayBecomeRequest buf
-Judges buf headers Bad = IsRefused buf ⊎ IsLost buf
+Judges buf headers (Refused code) = IsRefused buf code
+Judges buf headers Lost = IsLost buf

@@ -1,20 +1,17 @@
 -- The requests of a stream of bytes (RFC 9112). A head is judged by the grammar of `httparse`.
-use Rattle.std.specs.Prelude.{◌≡◌, ℕ, ◌+◌, ◌<◌, ◌≤◌, ◌⊎◌, ◌==◌, Bool, false, List, [], ◌∷◌, ◌++◌, length, map, Option, Some, None, codes}
+use Rattle.std.specs.Prelude.{◌≡◌, ℕ, ◌+◌, ◌<◌, ◌≤◌, ◌⊎◌, ◌==◌, Bool, true, false, List, [], ◌∷◌, ◌++◌, length, map, Result, Ok, Err, codes, ⊤}
 use Rattle.std.specs.List.{list_any, before_first, after_first}
 use Rattle.httparse.specs.Grammar.{RequestHead, ReadsRequest, print_request, NeverHasRequest, EndsInTarget, MayBecomeRequest}
 use Rattle.httparse.specs.Spans.{name_and_value}
 use Rattle.rest_codes.specs.declared.response.Reply.{Reply}
 use Rattle.rest_codes.specs.Errors.{refusal_of}
-use Rattle.http_conn.specs.Fields.{frame_of, values_of, joined, is_encoding}
+use Rattle.http_conn.specs.Asked.{asked_in}
+use Rattle.http_conn.specs.Fields.{frame_of, values_of, joined, is_encoding, asks_close}
 use Rattle.http_conn.specs.declared.request.Request.{Request}
 
 -- the longest head
 abbrev pub max_head : ℕ
 max_head = 16384
-
--- the most fields of a head
-abbrev pub max_fields : ℕ
-max_fields = 64
 
 -- the most requests of a connection
 abbrev pub max_requests : ℕ
@@ -33,9 +30,9 @@ HasNoHead bytes = (head : RequestHead) (after : List ℕ) → HasHead bytes head
 abbrev pub fields_of : RequestHead → List (List ℕ × List ℕ)
 fields_of head = map name_and_value head.fields
 
--- the size of the body that a head tells, where its framing is served
-abbrev pub frame : RequestHead → Option ℕ
-frame head = frame_of head.minor (fields_of head)
+-- the size of the body that a head tells, or the status that refuses it
+abbrev pub frame : RequestHead → Result ℕ ℕ
+frame head = frame_of head.minor head.target (fields_of head)
 
 -- the mark between a path and its query
 abbrev pub is_mark : ℕ → Bool
@@ -46,23 +43,22 @@ pub record IsRequest (bytes : List ℕ) (request : Request) (rest : List ℕ) : 
   pub head : RequestHead
   pub after : List ℕ
   pub at : HasHead bytes head after
-  pub few : length head.fields ≤ max_fields
-  pub size : frame head ≡ Some (length request.body)
+  pub size : frame head ≡ Ok (length request.body)
   pub body : after ≡ request.body ++ rest
   pub method : request.method ≡ head.method
-  pub path : request.path ≡ before_first is_mark head.target
-  pub query : request.query ≡ after_first is_mark head.target
+  pub path : request.path ≡ before_first is_mark (asked_in head.target)
+  pub query : request.query ≡ after_first is_mark (asked_in head.target)
   pub accept : request.accept ≡ joined (values_of (codes "accept") (fields_of head))
   pub content_type : request.content_type ≡ joined (values_of (codes "content-type") (fields_of head))
   pub encoded : request.encoded ≡ list_any is_encoding (values_of (codes "content-encoding") (fields_of head))
-  pub close : request.close ≡ false
+  pub close : request.close ≡ asks_close head.minor (fields_of head)
 
--- a whole head that isn't served: it has too many fields, or its framing isn't built
-pub record IsRefused (bytes : List ℕ) : Type 0 where
+-- a whole head that is refused with this status
+pub record IsRefused (bytes : List ℕ) (code : ℕ) : Type 0 where
   pub head : RequestHead
   pub after : List ℕ
   pub at : HasHead bytes head after
-  pub why : (max_fields < length head.fields) ⊎ (frame head ≡ None)
+  pub why : frame head ≡ Err code
 
 -- a front of the bytes shorter than the longest head can't become a head, whatever follows.
 -- A front that ends inside a target decides nothing.
@@ -74,13 +70,20 @@ pub record IsHopeless (bytes : List ℕ) : Type 0 where
   pub never : NeverHasRequest front
   pub decided : EndsInTarget front → ⊥
 
--- no request can stand here: a head that isn't served, no head in as many bytes as one may have, or no hope of one
-abbrev pub IsBadPlace : List ℕ → Type 0
-IsBadPlace bytes = IsRefused bytes ⊎ (((max_head ≤ length bytes) × HasNoHead bytes) ⊎ IsHopeless bytes)
+-- as many bytes as a head may have hold none, and each shorter front of them may become one
+pub record IsTooLong (bytes : List ℕ) : Type 0 where
+  pub long : max_head ≤ length bytes
+  pub none : HasNoHead bytes
+  pub hope : IsHopeless bytes → ⊥
 
--- the place is bad, and is answered so; until the other framings are built each is answered 400
+-- No request can stand here, and this is the status: that of a whole head that is refused, 431 where no head ends in as many bytes
+-- as one may have, and 400 where the bytes can't become a head.
+abbrev pub IsBadPlace : List ℕ → ℕ → Type 0
+IsBadPlace bytes code = IsRefused bytes code ⊎ ((IsTooLong bytes × (code ≡ 431)) ⊎ (IsHopeless bytes × (code ≡ 400)))
+
+-- the place is bad, and is answered so
 abbrev pub IsBad : List ℕ → Reply → Type 0
-IsBad bytes reply = IsBadPlace bytes × (reply ≡ refusal_of 400)
+IsBad bytes reply = (code : ℕ) × IsBadPlace bytes code × (reply ≡ refusal_of code)
 
 -- the bytes end inside the body of a request
 pub record IsCutBody (bytes : List ℕ) : Type 0 where
@@ -88,8 +91,7 @@ pub record IsCutBody (bytes : List ℕ) : Type 0 where
   pub after : List ℕ
   pub size : ℕ
   pub at : HasHead bytes head after
-  pub few : length head.fields ≤ max_fields
-  pub told : frame head ≡ Some size
+  pub told : frame head ≡ Ok size
   pub cut : length after < size
 
 -- the bytes end inside a head that may still become one
@@ -109,27 +111,39 @@ pub data Ending : Type 0 where
   CutShort : (due : Bool) → Ending
   BadPlace : (due : Bool) → Reply → Ending
 
--- what stands behind the first n requests
-abbrev pub EndsBehind : ℕ → List ℕ → Ending → Type 0
-EndsBehind n rest End = (n < max_requests) × (rest ≡ [])
-EndsBehind n rest Closed = ⊥
-EndsBehind n rest Limit = n ≡ max_requests
-EndsBehind n rest (CutShort due) = (n < max_requests) × (due ≡ false) × IsCut rest
-EndsBehind n rest (BadPlace due reply) = (n < max_requests) × (due ≡ false) × IsBad rest reply
+-- the last of the requests closes
+abbrev pub is_closed : List Request → Bool
+is_closed [] = false
+is_closed (r ∷ []) = r.close
+is_closed (r ∷ q ∷ rs) = is_closed (q ∷ rs)
+
+-- What stands behind the first n requests, of which the last closes or doesn't. The limit comes before what the last one asks.
+abbrev pub EndsBehind : ℕ → Bool → List ℕ → Ending → Type 0
+EndsBehind n closed rest End = (n < max_requests) × (closed ≡ false) × (rest ≡ [])
+EndsBehind n closed rest Closed = (n < max_requests) × (closed ≡ true)
+EndsBehind n closed rest Limit = n ≡ max_requests
+EndsBehind n closed rest (CutShort due) = (n < max_requests) × (closed ≡ false) × (due ≡ false) × IsCut rest
+EndsBehind n closed rest (BadPlace due reply) = (n < max_requests) × (closed ≡ false) × (due ≡ false) × IsBad rest reply
+
+-- behind a request that closes there is no other
+abbrev pub GoesOn : Request → List Request → Type 0
+GoesOn r [] = ⊤
+GoesOn r (q ∷ rs) = r.close ≡ false
 
 -- the bytes begin with these requests, behind n others, and the rest follows
 abbrev pub Begins : ℕ → List ℕ → List Request → List ℕ → Type 0
 Begins n bytes [] rest = bytes ≡ rest
-Begins n bytes (r ∷ rs) rest = (n < max_requests) × ((mid : List ℕ) × IsRequest bytes r mid × Begins (n + 1) mid rs rest)
+Begins n bytes (r ∷ rs) rest = ((n < max_requests) × GoesOn r rs) × ((mid : List ℕ) × IsRequest bytes r mid × Begins (n + 1) mid rs rest)
 
 -- the requests of the bytes, and why there is no further one
 pub record Stream (bytes : List ℕ) (requests : List Request) (ending : Ending) : Type 0 where
   pub rest : List ℕ
   pub begins : Begins 0 bytes requests rest
-  pub ends : EndsBehind (length requests) rest ending
+  pub ends : EndsBehind (length requests) (is_closed requests) rest ending
 
--- all whole requests of the bytes, and of what is behind them nothing can be said yet
+-- all whole requests of the bytes, of which the last doesn't close, and of what is behind them nothing can be said yet
 pub record StreamSoFar (bytes : List ℕ) (requests : List Request) : Type 0 where
   pub rest : List ℕ
   pub begins : Begins 0 bytes requests rest
+  pub goes : is_closed requests ≡ false
   pub waits : (rest ≡ []) ⊎ IsCut rest

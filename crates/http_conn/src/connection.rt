@@ -4,8 +4,8 @@ ghost use Rattle.gate_io.specs.Counts.{Rose};
 ghost use Rattle.rest_codes.specs.Errors.{refusal_of};
 ghost use Rattle.std.specs.List.{list_any};
 ghost use Rattle.http_conn.specs.Told.{Comes, StillComes, LastRead};
-ghost use Rattle.http_conn.specs.Next.{Gives, IsWaiting, IsInHead, IsShort, NeedsMore, is_line_end, is_open};
-ghost use Rattle.http_conn.specs.Stream.{max_head, IsRequest};
+ghost use Rattle.http_conn.specs.Next.{Gives, IsWaiting, IsInHead, IsShort, NeedsMore, is_line_end, is_last};
+ghost use Rattle.http_conn.specs.Stream.{max_head, IsRequest, HasNoHead, IsBadPlace};
 ghost use Rattle.http_conn.specs.declared.request.Request.{Request as RequestOf};
 ghost use Rattle.http_conn.specs.Parts.{max_spans};
 ghost use Rattle.http_conn.specs.Front.{FrontIs};
@@ -21,6 +21,9 @@ use std::alloc::{AllocError, Global};
 use std::marker::Model;
 
 const MAX_HEAD: usize = 16_384;
+
+/// The longest front that is shorter than the longest head.
+const MAX_FRONT: usize = 16_383;
 
 /// A field line has three bytes at least, so no head has more fields.
 const MAX_SPANS: usize = 5_462;
@@ -46,9 +49,25 @@ impl Model for Connection {
 #[derive(Clone, Copy)]
 pub(crate) enum Front {
     Whole(Head),
-    Bad,
+    Bad(u32),
     Cut,
     End,
+}
+
+/// The status of bytes that are as many as a head may have, and hold none: 400 where fewer of them
+/// are lost already.
+fn full_status(held: &[u8], headers: &mut [HeaderSpan]) -> u32
+    requires long { max_head ≤ length held.now }
+    requires none { HasNoHead held.now }
+    requires room { max_spans ≤ length headers.old }
+    ensures { IsBadPlace held.now result }
+{
+    match judge(&held[..MAX_FRONT], headers) {
+        Verdict::Lost => 400,
+        Verdict::Unfinished => 431,
+        Verdict::Whole(_head) => 431,
+        Verdict::Refused(_code) => 431,
+    }
 }
 
 /// Judges what is held, where that is as long as a head may be.
@@ -59,8 +78,9 @@ fn judge_full(held: &[u8], headers: &mut [HeaderSpan]) -> Front
 {
     match judge(&held[..MAX_HEAD], headers) {
         Verdict::Whole(head) => Front::Whole(head),
-        Verdict::Bad => Front::Bad,
-        Verdict::Unfinished => Front::Bad,
+        Verdict::Refused(code) => Front::Bad(code),
+        Verdict::Lost => Front::Bad(full_status(held, headers)),
+        Verdict::Unfinished => Front::Bad(full_status(held, headers)),
     }
 }
 
@@ -90,7 +110,8 @@ fn broken(held: &[u8], headers: &mut [HeaderSpan], no: ConnNo) -> Result<Front, 
     }
     match judge(held, headers) {
         Verdict::Whole(head) => Ok(Front::Whole(head)),
-        Verdict::Bad => Ok(Front::Bad),
+        Verdict::Refused(code) => Ok(Front::Bad(code)),
+        Verdict::Lost => Ok(Front::Bad(400)),
         Verdict::Unfinished => Err(no),
     }
 }
@@ -162,7 +183,8 @@ fn read_head<S: Source>(
     while held.len() < MAX_HEAD {
         match judge(held.front(), headers) {
             Verdict::Whole(head) => return Ok(Front::Whole(head)),
-            Verdict::Bad => return Ok(Front::Bad),
+            Verdict::Refused(code) => return Ok(Front::Bad(code)),
+            Verdict::Lost => return Ok(Front::Bad(400)),
             Verdict::Unfinished => {}
         }
         match fill_line(held, source) {
@@ -201,11 +223,11 @@ fn fill_to<S: Source>(held: &mut Buffer, total: usize, source: &mut S) -> Result
 }
 
 /// The answer at a bad place.
-fn bad(alloc: Global) -> Result<Next, ConnNo>
-    ensures value { IfOk result (λ next. next ≡ Next.Bad (refusal_of 400)) }
+fn bad(alloc: Global, code: u32) -> Result<Next, ConnNo>
+    ensures value { IfOk result (λ next. next ≡ Next.Bad (refusal_of code)) }
     ensures fault { IfErr result (λ e. e ≡ ConnNo.Want) }
 {
-    match refusal(alloc, 400) {
+    match refusal(alloc, code) {
         Ok(reply) => Ok(Next::Bad(reply)),
         Err(Want) => Err(ConnNo::Want),
     }
@@ -235,7 +257,7 @@ fn read_request<S: Source>(
 {
     let head = match read_head(held, headers, source)? {
         Front::Whole(head) => head,
-        Front::Bad => return bad(alloc),
+        Front::Bad(code) => return bad(alloc, code),
         Front::Cut => return Ok(Next::CutShort),
         Front::End => return Ok(Next::End),
     };
@@ -262,14 +284,15 @@ impl Connection {
         }
     }
 
-    /// Reads the next request. After anything but `Ready` and `Continue` the connection is over.
+    /// Reads the next request. After a request that closes, and anything but `Ready` and `Continue`,
+    /// the connection is over.
     pub fn next<S: Source>(&mut self, alloc: Global, source: &mut S) -> Result<Next, ConnNo>
         // What stands at the front of the bytes that are still to come, and what then follows.
         ensures given { self.old.over ≡ false → IfOk result (λ next. (all : List ℕ)
             → Comes self.old.held (S.left source.old) all
             → (rest : List ℕ) × Comes self.new.held (S.left source.new) rest
             × Gives all next rest) }
-        // `Continue` comes once requests that expect it are served.
+        // `Continue` comes once requests that ask for it are served.
         ensures interim { result ≢ Ok Next.Continue }
         // A request that is held whole is given without a read.
         ensures prompt { self.old.over ≡ false → (request : RequestOf) (rest : List ℕ)
@@ -277,9 +300,7 @@ impl Connection {
         // Nothing is read once what is held is a request, or a bad place at the end of its line.
         ensures patient { self.old.over ≡ false
             → LastRead S.left S.asked self.old.held source.old source.new NeedsMore }
-        ensures open { self.old.over ≡ false → IfOk result (λ next. is_open next ≡ true
-            → self.new.over ≡ false) }
-        ensures closed { IfOk result (λ next. is_open next ≡ false → self.new.over ≡ true) }
+        ensures closed { self.old.over ≡ false → IfOk result (λ next. self.new.over ≡ is_last next) }
         ensures over { self.old.over ≡ true → (result ≡ Ok Next.End) × (source.new ≡ source.old)
             × (self.new ≡ self.old) }
 
@@ -300,8 +321,15 @@ impl Connection {
         }
         self.over = true;
         let next = read_request(alloc, &mut self.held, self.headers.as_mut_slice(), source)?;
-        self.over = !next.is_open();
+        self.over = next.is_last();
         Ok(next)
+    }
+
+    /// The connection is over: `next` reads nothing any more, and answers `End`.
+    pub fn is_over(&self) -> bool
+        ensures { result ≡ self.now.over }
+    {
+        self.over
     }
 
     /// Writes a response. It takes no memory.

@@ -1,17 +1,22 @@
-ghost use Rattle.std.specs.Prelude.{◌≡◌, ◌≤◌, ◌+◌, ◌++◌, ◌∷◌, [], ℕ, All, map, length, List, IsTrue, min, codes, IfSome, IfOk, OnOk, true, false, ◌||◌};
+ghost use Rattle.std.specs.Prelude.{◌≡◌, ◌≤◌, ◌+◌, ◌++◌, ◌∷◌, [], ℕ, All, map, length, List, IsTrue, min, codes, IfOk, OnOk, true, false, ◌||◌};
 ghost use Rattle.std.specs.List.{list_all, list_any};
 ghost use Rattle.std.specs.Str.Parse.{digits_value};
 ghost use Rattle.std.specs.Str.{bytes_eq};
 ghost use Rattle.std.specs.Char.{to_ascii_lowercase, is_ascii_digit};
 ghost use Rattle.httparse.specs.Spans.{header_bytes, IsHeaderWithin, IsWithin};
-ghost use Rattle.http_conn.specs.Fields.{values_of, is_absent, size_in, size_of, frame_of, is_encoding, joined, max_body};
-ghost use Rattle.http_conn.specs.Parts.{FoundIs, JoinedIs, found_absent, more_found};
+ghost use Rattle.http_conn.specs.Fields.{values_of, is_absent, size_in, size_of, frame_of, is_encoding, is_hosted, is_interim, asks_interim, asks_close, joined, max_body};
+ghost use Rattle.http_conn.specs.Parts.{FoundIs, JoinedIs, found_absent, found_single, more_found};
+ghost use Rattle.http_conn.specs.Member.{has_member};
 
+use crate::asked::is_served;
+use crate::member::has_member;
 use gate_io::Items;
 use httparse::spans::{HeaderSpan, Span};
 use std::alloc::{AllocError, Global};
 
 const MAX_BODY: usize = 8_388_608;
+
+const MAX_FIELDS: usize = 64;
 
 /// The fields of one name.
 #[derive(Clone, Copy)]
@@ -32,6 +37,12 @@ impl Found {
         ensures { result ≡ found_absent self }
     {
         matches!(self, Found::Absent)
+    }
+
+    fn is_single(self) -> bool
+        ensures { result ≡ found_single self }
+    {
+        matches!(self, Found::One(_))
     }
 
     /// One more field of the name.
@@ -87,15 +98,16 @@ fn is_digits(text: &[u8]) -> bool
     text.iter().all(|b| b.is_ascii_digit())
 }
 
-fn decimal_size(digits: &[u8]) -> Option<usize>
+/// The size that digits tell, or its refusal.
+fn decimal_size(digits: &[u8]) -> Result<usize, u32>
     ensures value { result ≡ size_in digits.now }
-    ensures bound { IfSome result (λ n. n ≤ max_body) }
+    ensures bound { IfOk result (λ n. n ≤ max_body) }
 {
     if digits.is_empty() || !is_digits(digits) {
-        return None;
+        return Err(400);
     }
     let size = value_of(digits);
-    if size <= MAX_BODY { Some(size) } else { None }
+    if size <= MAX_BODY { Ok(size) } else { Err(413) }
 }
 
 fn lacks(buf: &[u8], headers: &[HeaderSpan], name: &[u8]) -> bool
@@ -105,34 +117,54 @@ fn lacks(buf: &[u8], headers: &[HeaderSpan], name: &[u8]) -> bool
     find_values(buf, headers, name).is_absent()
 }
 
-fn body_size(buf: &[u8], headers: &[HeaderSpan]) -> Option<usize>
+/// The hosts are as the version asks.
+fn is_hosted(buf: &[u8], headers: &[HeaderSpan], version: u8) -> bool
     requires { All (IsHeaderWithin (length buf.now)) headers.now }
-    ensures bound { IfSome result (λ n. n ≤ max_body) }
+    ensures { result ≡ is_hosted version (map (header_bytes buf.now) headers.now) }
+{
+    version == 0 || find_values(buf, headers, b"host").is_single()
+}
+
+fn body_size(buf: &[u8], headers: &[HeaderSpan]) -> Result<usize, u32>
+    requires { All (IsHeaderWithin (length buf.now)) headers.now }
+    ensures bound { IfOk result (λ n. n ≤ max_body) }
     ensures value { result ≡ size_of (values_of (codes "content-length") (map (header_bytes buf.now) headers.now)) }
 {
     match find_values(buf, headers, b"content-length") {
-        Found::Absent => Some(0),
+        Found::Absent => Ok(0),
         Found::One(span) => decimal_size(span.of(buf)),
-        Found::Several => None,
+        Found::Several => Err(400),
     }
 }
 
-/// The size of the body, where the framing of the request is served.
+/// The size of the body, or the status of the first test that the head fails.
 #[tactic(auto, unfolding(crate::specs::Fields::frame_of))]
-pub(crate) fn framed_size(buf: &[u8], headers: &[HeaderSpan], version: u8) -> Option<usize>
+pub(crate) fn framed_size(
+    buf: &[u8],
+    headers: &[HeaderSpan],
+    version: u8,
+    target: &[u8],
+) -> Result<usize, u32>
     requires { All (IsHeaderWithin (length buf.now)) headers.now }
-    ensures bound { IfSome result (λ n. n ≤ max_body) }
-    ensures value { result ≡ frame_of version (map (header_bytes buf.now) headers.now) }
+    ensures bound { IfOk result (λ n. n ≤ max_body) }
+    ensures value { result ≡ frame_of version target.now (map (header_bytes buf.now) headers.now) }
 {
-    if version == 1
-        && lacks(buf, headers, b"transfer-encoding")
-        && lacks(buf, headers, b"expect")
-        && lacks(buf, headers, b"connection")
-    {
-        body_size(buf, headers)
-    } else {
-        None
+    if headers.len() > MAX_FIELDS {
+        return Err(431);
     }
+    if !is_hosted(buf, headers, version) {
+        return Err(400);
+    }
+    if !is_served(target) {
+        return Err(400);
+    }
+    if !lacks(buf, headers, b"transfer-encoding") {
+        return Err(400);
+    }
+    if asks_interim(buf, headers, version) {
+        return Err(400);
+    }
+    body_size(buf, headers)
 }
 
 /// Joins one more value to the text, behind a comma where one was found before.
@@ -210,4 +242,64 @@ pub(crate) fn is_encoded(buf: &[u8], headers: &[HeaderSpan]) -> bool
         found = names_coding(found, buf, *header);
     }
     found
+}
+
+/// One more field: it expects the interim response, or one before it did.
+fn names_expected(found: bool, buf: &[u8], header: HeaderSpan) -> bool
+    requires { IsHeaderWithin (length buf.now) header }
+    ensures { result ≡ (found || list_any is_interim (values_of (codes "expect") (header_bytes buf.now header ∷ []))) }
+{
+    found
+        || (is_named(header.name.of(buf), b"expect")
+            && is_named(header.value.of(buf), b"100-continue"))
+}
+
+/// A field expects the interim response.
+fn is_expected(buf: &[u8], headers: &[HeaderSpan]) -> bool
+    requires { All (IsHeaderWithin (length buf.now)) headers.now }
+    ensures { result ≡ list_any is_interim (values_of (codes "expect") (map (header_bytes buf.now) headers.now)) }
+{
+    let mut found = false;
+    for header in headers {
+        found = names_expected(found, buf, *header);
+    }
+    found
+}
+
+/// An HTTP/1.1 request asks for the interim response before its body.
+fn asks_interim(buf: &[u8], headers: &[HeaderSpan], version: u8) -> bool
+    requires { All (IsHeaderWithin (length buf.now)) headers.now }
+    ensures { result ≡ asks_interim version (map (header_bytes buf.now) headers.now) }
+{
+    version != 0 && is_expected(buf, headers)
+}
+
+/// One more field: it has the member `close`, or one before it did.
+fn names_close(found: bool, buf: &[u8], header: HeaderSpan) -> bool
+    requires { IsHeaderWithin (length buf.now) header }
+    ensures { result ≡ (found || list_any (has_member (codes "close")) (values_of (codes "connection") (header_bytes buf.now header ∷ []))) }
+{
+    found
+        || (is_named(header.name.of(buf), b"connection")
+            && has_member(b"close", header.value.of(buf)))
+}
+
+/// A Connection field has the member `close`.
+fn is_closing(buf: &[u8], headers: &[HeaderSpan]) -> bool
+    requires { All (IsHeaderWithin (length buf.now)) headers.now }
+    ensures { result ≡ list_any (has_member (codes "close")) (values_of (codes "connection") (map (header_bytes buf.now) headers.now)) }
+{
+    let mut found = false;
+    for header in headers {
+        found = names_close(found, buf, *header);
+    }
+    found
+}
+
+/// The client closes: by its version or by a member of a Connection field.
+pub(crate) fn asks_close(buf: &[u8], headers: &[HeaderSpan], version: u8) -> bool
+    requires { All (IsHeaderWithin (length buf.now)) headers.now }
+    ensures { result ≡ asks_close version (map (header_bytes buf.now) headers.now) }
+{
+    version == 0 || is_closing(buf, headers)
 }

@@ -8,8 +8,6 @@ use crate::target::ends_in_target;
 use httparse::Status;
 use httparse::spans::{HeaderSpan, RequestSpans, parse_request};
 
-const MAX_FIELDS: usize = 64;
-
 /// Where the parts of a head are, and how long its body is.
 #[derive(Clone, Copy)]
 pub(crate) struct Head {
@@ -22,7 +20,8 @@ pub(crate) struct Head {
 pub(crate) enum Verdict {
     Whole(Head),
     Unfinished,
-    Bad,
+    Refused(u32),
+    Lost,
 }
 
 /// Judges a head that is whole.
@@ -32,12 +31,10 @@ fn judge_head(buf: &[u8], headers: &[HeaderSpan], spans: RequestSpans) -> Verdic
     requires head { IsRequestOf buf.now headers.now spans }
     ensures { Judges buf.now headers.now result }
 {
-    if spans.headers > MAX_FIELDS {
-        return Verdict::Bad;
-    }
-    match framed_size(buf, &headers[..spans.headers], spans.version) {
-        None => Verdict::Bad,
-        Some(size) => Verdict::Whole(Head { spans, size }),
+    let fields = &headers[..spans.headers];
+    match framed_size(buf, fields, spans.version, spans.path.of(buf)) {
+        Ok(size) => Verdict::Whole(Head { spans, size }),
+        Err(code) => Verdict::Refused(code),
     }
 }
 
@@ -54,7 +51,7 @@ pub(crate) fn judge(buf: &[u8], headers: &mut [HeaderSpan]) -> Verdict
             if ends_in_target(buf) {
                 Verdict::Unfinished
             } else {
-                Verdict::Bad
+                Verdict::Lost
             }
         }
     }

@@ -1,6 +1,6 @@
-ghost use Rattle.std.specs.Prelude.{◌≡◌, ◌+◌, ◌<◌, ◌++◌, ◌∷◌, [], length, List, ℕ};
+ghost use Rattle.std.specs.Prelude.{◌≡◌, ◌+◌, ◌<◌, ◌++◌, ◌∷◌, [], length, false, List, ℕ};
 ghost use Rattle.http_conn.specs.Next.{Gives};
-ghost use Rattle.http_conn.specs.Stream.{Stream, Ending, Begins, IsRequest, max_requests};
+ghost use Rattle.http_conn.specs.Stream.{Stream, Ending, Begins, IsRequest, is_closed, max_requests};
 ghost use Rattle.http_conn.specs.declared.request.Next.{Next as NextOf};
 ghost use Rattle.http_conn.specs.declared.request.Request.{Request as RequestOf};
 
@@ -18,11 +18,11 @@ pub fn bytes_have_one_stream()
         × (ending ≡ another) }
 {}
 
-/// One more request stands behind those that were read.
+/// One more request stands behind those that were read, where the last of them doesn't close.
 pub fn requests_go_on()
     ensures { (n : ℕ) (bytes : List ℕ) (requests : List RequestOf) (mid : List ℕ) (request : RequestOf) (rest : List ℕ)
         → Begins n bytes requests mid → n + length requests < max_requests
-        → IsRequest mid request rest
+        → is_closed requests ≡ false → IsRequest mid request rest
         → Begins n bytes (requests ++ request ∷ []) rest }
 {}
 

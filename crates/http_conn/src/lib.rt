@@ -1,11 +1,13 @@
 //! The requests of a stream of bytes, read in any pieces, and the bytes that answer them.
 #![tactic(auto)]
 
+mod asked;
 mod buffer;
 mod connection;
 mod fields;
 mod judge;
 mod law;
+mod member;
 mod request;
 mod target;
 #[cfg(test)]

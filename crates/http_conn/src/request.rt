@@ -1,15 +1,17 @@
 ghost use Rattle.std.specs.Prelude.{◌≡◌};
-ghost use Rattle.http_conn.specs.Next.{is_open};
+ghost use Rattle.http_conn.specs.Next.{is_last};
 
 use gate_io::{Items, Text};
 use http::Method;
 use rest_codes::Reply;
 use std::alloc::AllocError;
 
-/// A whole request (RFC 9112). `path` and `query` are the target before and behind its first `?`.
+/// A whole request (RFC 9112). `path` and `query` are the target, without the scheme and the
+/// authority of an absolute one, before and behind its first `?`.
 /// `accept` and `content_type` are the values of all fields of that name, joined by commas, and
 /// none where there is no such field; they may hold bytes past ASCII. `encoded` says that a
-/// Content-Encoding other than `identity` was named, and `close` that the client asks to close.
+/// Content-Encoding other than `identity` was named, and `close` that the connection closes behind
+/// the response: the version is HTTP/1.0, or a Connection field has the member `close`.
 #[derive(Drop)]
 pub struct Request {
     pub method: Method,
@@ -54,10 +56,14 @@ impl From<AllocError> for ConnNo {
 }
 
 impl Next {
-    /// More may come on the connection.
-    pub fn is_open(&self) -> bool
-        ensures { result ≡ is_open self.now }
+    /// Nothing comes behind it on the connection.
+    pub fn is_last(&self) -> bool
+        ensures { result ≡ is_last self.now }
     {
-        matches!(self, Next::Ready(_) | Next::Continue)
+        match self {
+            Next::Ready(request) => request.close,
+            Next::Continue => false,
+            Next::End | Next::CutShort | Next::Bad(_) => true,
+        }
     }
 }

@@ -2,6 +2,7 @@
 
 use crate::{ConnNo, Connection, Next, Request};
 use gate_io::{Failed, Items, MemSink, MemSource, Source};
+use rest_codes::Reply;
 use std::alloc::Global;
 use std::process::Abort;
 use std::test::Fail;
@@ -23,9 +24,11 @@ fn put(told: &mut String, part: &str, end: &str) -> Result<(), Fail> {
     Ok(())
 }
 
-/// What a request shows: method, path, query, accept, content type, encoded, body, each before a bar.
+/// What a request shows: method, path, query, accept, content type, encoded, close, body, each before
+/// a bar.
 fn show(told: &mut String, request: &Request) -> Result<(), Fail> {
     let encoded = if request.encoded { "coded" } else { "plain" };
+    let close = if request.close { "close" } else { "open" };
     let parts = [
         request.method.as_str(),
         request.path.as_str(),
@@ -33,11 +36,25 @@ fn show(told: &mut String, request: &Request) -> Result<(), Fail> {
         listed(&request.accept),
         listed(&request.content_type),
         encoded,
+        close,
     ];
     for part in parts {
         put(told, part, "|")?;
     }
     put(told, text(request.body.as_slice()), ";")
+}
+
+/// The status of a refusal.
+fn cause(reply: &Reply) -> &'static str {
+    match reply {
+        Reply::Error { code, .. } => match *code {
+            400 => "400;",
+            413 => "413;",
+            431 => "431;",
+            _ => "?;",
+        },
+        Reply::Empty | Reply::Body { .. } | Reply::Want => "?;",
+    }
 }
 
 /// What an answer shows that isn't a request.
@@ -47,7 +64,7 @@ fn other(next: &Next) -> &'static str {
         Next::Continue => "continue;",
         Next::End => "end",
         Next::CutShort => "cut;",
-        Next::Bad(_) => "bad;",
+        Next::Bad(reply) => cause(reply),
     }
 }
 
@@ -120,11 +137,13 @@ Content-Length: 0004\r\n\
 \r\n\
 body\
 GET / HTTP/1.1\r\n\
+Host: p\r\n\
 Content-Encoding: Identity\r\n\
 Content-Encoding: gzip\r\n\
 \r\n";
 
-const PRODUCED: &str = "POST|/topics/orders|x=1&y=2|a/b,c/d|t/u|plain|body;GET|/||-|-|coded|;end";
+const PRODUCED: &str =
+    "POST|/topics/orders|x=1&y=2|a/b,c/d|t/u|plain|open|body;GET|/||-|-|coded|open|;end";
 
 const PIECES: [(&str, &[u8], usize, &str); 6] = [
     ("1", PRODUCE, 1, PRODUCED),
@@ -140,7 +159,7 @@ fn pieces_of_any_size_give_the_same_requests(rt: HostRuntime) -> Result<(), Fail
     end_so(&rt, rt.alloc(), &PIECES)
 }
 
-const ENDINGS: [(&str, &[u8], usize, &str); 18] = [
+const ENDINGS: [(&str, &[u8], usize, &str); 22] = [
     ("nothing", b"", 5, "end"),
     ("blank lines alone", b"\r\n\r\n", 5, "cut;end"),
     (
@@ -152,82 +171,101 @@ const ENDINGS: [(&str, &[u8], usize, &str); 18] = [
     ("a target that is cut", b"GET /\xff", 5, "cut;end"),
     (
         "a body that is cut",
-        b"GET / HTTP/1.1\r\nContent-Length: 2\r\n\r\nx",
+        b"GET / HTTP/1.1\r\nHost:p\r\nContent-Length: 2\r\n\r\nx",
         5,
         "cut;end",
     ),
     (
-        "a version that isn't served",
-        b"GET / HTTP/1.0\r\n\r\n",
-        5,
-        "bad;end",
-    ),
-    (
         "a transfer encoding",
-        b"GET / HTTP/1.1\r\nTransfer-Encoding: chunked\r\n\r\n",
+        b"GET / HTTP/1.1\r\nHost:p\r\nTransfer-Encoding: chunked\r\n\r\n",
         5,
-        "bad;end",
+        "400;end",
     ),
     (
         "an expectation",
-        b"GET / HTTP/1.1\r\nExpect: 100-continue\r\n\r\n",
+        b"GET / HTTP/1.1\r\nHost:p\r\nExpect: 100-continue\r\n\r\n",
         5,
-        "bad;end",
-    ),
-    (
-        "a connection field",
-        b"GET / HTTP/1.1\r\nConnection: close\r\n\r\n",
-        5,
-        "bad;end",
+        "400;end",
     ),
     (
         "two lengths",
-        b"GET / HTTP/1.1\r\nContent-Length: 1\r\nContent-Length: 1\r\n\r\nx",
+        b"GET / HTTP/1.1\r\nHost:p\r\nContent-Length: 1\r\nContent-Length: 1\r\n\r\nx",
         5,
-        "bad;end",
+        "400;end",
     ),
     (
         "a length with a sign",
-        b"GET / HTTP/1.1\r\nContent-Length: +1\r\n\r\nx",
+        b"GET / HTTP/1.1\r\nHost:p\r\nContent-Length: +1\r\n\r\nx",
         5,
-        "bad;end",
+        "400;end",
     ),
     (
         "an empty length",
-        b"GET / HTTP/1.1\r\nContent-Length:\r\n\r\nx",
+        b"GET / HTTP/1.1\r\nHost:p\r\nContent-Length:\r\n\r\nx",
         5,
-        "bad;end",
+        "400;end",
     ),
     (
         "a length past the largest",
-        b"GET / HTTP/1.1\r\nContent-Length: 8388609\r\n\r\n",
+        b"GET / HTTP/1.1\r\nHost:p\r\nContent-Length: 8388609\r\n\r\n",
         5,
-        "bad;end",
+        "413;end",
     ),
     (
         "the largest length",
-        b"GET / HTTP/1.1\r\nContent-Length: 8388608\r\n\r\n",
+        b"GET / HTTP/1.1\r\nHost:p\r\nContent-Length: 8388608\r\n\r\n",
         5,
         "cut;end",
     ),
     (
         "a huge length",
-        b"GET / HTTP/1.1\r\nContent-Length: 99999999999999999999999\r\n\r\n",
+        b"GET / HTTP/1.1\r\nHost:p\r\nContent-Length: 99999999999999999999999\r\n\r\n",
         5,
-        "bad;end",
+        "413;end",
     ),
-    ("no method", b" / HTTP/1.1\r\n\r\n", 5, "bad;end"),
+    (
+        "two lengths, of which one is too large",
+        b"GET / HTTP/1.1\r\nHost:p\r\nContent-Length: 8388609\r\nContent-Length: 8388609\r\n\r\n",
+        5,
+        "400;end",
+    ),
+    ("no host", b"GET / HTTP/1.1\r\n\r\n", 5, "400;end"),
+    (
+        "two hosts",
+        b"GET / HTTP/1.1\r\nHost:p\r\nhost:p\r\n\r\n",
+        5,
+        "400;end",
+    ),
+    (
+        "no slash",
+        b"GET a HTTP/1.1\r\nHost:p\r\n\r\n",
+        5,
+        "400;end",
+    ),
+    (
+        "another scheme",
+        b"GET HTTP://a/ HTTP/1.1\r\nHost:p\r\n\r\n",
+        5,
+        "400;end",
+    ),
+    ("no method", b" / HTTP/1.1\r\n\r\n", 5, "400;end"),
     (
         "bytes that can't become a head",
         b"GET / HTTQ",
         5,
-        "bad;end",
+        "400;end",
+    ),
+    (
+        "a target that isn't ASCII",
+        b"GET /\xc3\xa4 HTTP/1.1\r\nHost:p\r\n\r\n",
+        5,
+        "400;end",
     ),
     (
         "a target that isn't UTF-8",
-        b"GET /\xff HTTP/1.1\r\n\r\n",
+        b"GET /\xff HTTP/1.1\r\nHost:p\r\n\r\n",
         5,
-        "bad;end",
+        "400;end",
     ),
 ];
 
@@ -236,9 +274,116 @@ fn each_ending_is_the_definitions(rt: HostRuntime) -> Result<(), Fail> {
     end_so(&rt, rt.alloc(), &ENDINGS)
 }
 
+/// Behind each of these heads stands a whole request, which is read unless the first one closes.
+const CLOSINGS: [(&str, &[u8], usize, &str); 9] = [
+    (
+        "HTTP/1.0",
+        b"GET / HTTP/1.0\n\nGET /b HTTP/1.0\n\n",
+        9,
+        "GET|/||-|-|plain|close|;end",
+    ),
+    (
+        "HTTP/1.0 that would keep alive",
+        b"GET / HTTP/1.0\nConnection: keep-alive\n\nGET /b HTTP/1.0\n\n",
+        9,
+        "GET|/||-|-|plain|close|;end",
+    ),
+    (
+        "close",
+        b"GET / HTTP/1.1\nHost:p\nConnection: close\n\nGET /b HTTP/1.0\n\n",
+        9,
+        "GET|/||-|-|plain|close|;end",
+    ),
+    (
+        "close among others",
+        b"GET / HTTP/1.1\nHost:p\nConnection: te, \tCLOSE ,x\n\nGET /b HTTP/1.0\n\n",
+        9,
+        "GET|/||-|-|plain|close|;end",
+    ),
+    (
+        "close in a second field",
+        b"GET / HTTP/1.1\nHost:p\nConnection: te\nconnection:close\n\nGET /b HTTP/1.0\n\n",
+        9,
+        "GET|/||-|-|plain|close|;end",
+    ),
+    (
+        "keep-alive",
+        b"GET / HTTP/1.1\nHost:p\nConnection: keep-alive\n\nGET /b HTTP/1.0\n\n",
+        9,
+        "GET|/||-|-|plain|open|;GET|/b||-|-|plain|close|;end",
+    ),
+    (
+        "longer and shorter words",
+        b"GET / HTTP/1.1\nHost:p\nConnection: closed, clos, c lose,\n\nGET /b HTTP/1.0\n\n",
+        9,
+        "GET|/||-|-|plain|open|;GET|/b||-|-|plain|close|;end",
+    ),
+    (
+        "an expectation of HTTP/1.0",
+        b"GET / HTTP/1.0\nExpect: 100-continue\n\n",
+        9,
+        "GET|/||-|-|plain|close|;end",
+    ),
+    (
+        "another expectation",
+        b"GET / HTTP/1.1\nHost:p\nExpect: x\n\n",
+        9,
+        "GET|/||-|-|plain|open|;end",
+    ),
+];
+
+#[test]
+fn a_request_that_closes_is_the_last(rt: HostRuntime) -> Result<(), Fail> {
+    end_so(&rt, rt.alloc(), &CLOSINGS)
+}
+
+const TARGETS: [(&str, &[u8], usize, &str); 6] = [
+    (
+        "absolute",
+        b"GET http://h:1/a/b?c HTTP/1.0\n\n",
+        9,
+        "GET|/a/b|c|-|-|plain|close|;end",
+    ),
+    (
+        "an authority alone",
+        b"GET http://h HTTP/1.0\n\n",
+        9,
+        "GET|/||-|-|plain|close|;end",
+    ),
+    (
+        "no authority",
+        b"GET http:///a HTTP/1.0\n\n",
+        9,
+        "GET|/a||-|-|plain|close|;end",
+    ),
+    (
+        "a query behind the authority",
+        b"GET http://h?c HTTP/1.0\n\n",
+        9,
+        "GET||c|-|-|plain|close|;end",
+    ),
+    (
+        "a fragment behind the authority",
+        b"GET http://h#c HTTP/1.0\n\n",
+        9,
+        "GET|#c||-|-|plain|close|;end",
+    ),
+    (
+        "a scheme in a path",
+        b"GET /http://h HTTP/1.0\n\n",
+        9,
+        "GET|/http://h||-|-|plain|close|;end",
+    ),
+];
+
+#[test]
+fn an_absolute_target_is_read_behind_its_authority(rt: HostRuntime) -> Result<(), Fail> {
+    end_so(&rt, rt.alloc(), &TARGETS)
+}
+
 /// A head with so many fields `a:b`, and this end.
 fn head(alloc: Global, fields: usize, end: &[u8]) -> Result<Vec<u8>, Fail> {
-    let mut bytes = Vec::from_slice(alloc, b"GET / HTTP/1.1\r\n")?;
+    let mut bytes = Vec::from_slice(alloc, b"GET / HTTP/1.0\r\n")?;
     for _ in 0..fields {
         bytes.extend_from_slice(b"a:b\n")?;
     }
@@ -260,13 +405,17 @@ fn count_so(rt: &impl Abort, alloc: Global, cases: &[(usize, &[u8], &str)]) -> R
     Ok(())
 }
 
-const COUNTS: [(usize, &[u8], &str); 6] = [
-    (64, b"\r\n", "GET|/||-|-|plain|;end"),
-    (65, b"\r\n", "bad;end"),
+const COUNTS: [(usize, &[u8], &str); 10] = [
+    (64, b"\r\n", "GET|/||-|-|plain|close|;end"),
+    (65, b"\r\n", "431;end"),
     (66, b"", "cut;end"),
-    (4000, b"\n", "bad;end"),
-    (4092, b"", "bad;end"),
+    (4000, b"\n", "431;end"),
+    (4092, b"", "431;end"),
     (4091, b"", "cut;end"),
+    (4091, b"abc\x01", "431;end"),
+    (4091, b"ab\x01c", "400;end"),
+    (4091, b"ab:\n", "431;end"),
+    (4090, b"ab:c\x01cd", "400;end"),
 ];
 
 #[test]
@@ -289,13 +438,16 @@ fn fail_so(
 }
 
 const FAULTS: [(&[u64], &str); 2] = [
-    (&[1], "GET|/||-|-|plain|;GET|/||-|-|plain|;fault;end"),
+    (
+        &[1],
+        "GET|/||-|-|plain|open|;GET|/||-|-|plain|open|;fault;end",
+    ),
     (&[0], "fault;end"),
 ];
 
 #[test]
 fn a_failed_read_ends_the_connection_behind_whole_requests(rt: HostRuntime) -> Result<(), Fail> {
-    let bytes = b"GET / HTTP/1.1\r\n\r\nGET / HTTP/1.1\r\n\r\nGET /";
+    let bytes = b"GET / HTTP/1.1\r\nHost:p\r\n\r\nGET / HTTP/1.1\r\nHost:p\r\n\r\nGET /";
     fail_so(&rt, rt.alloc(), bytes, &FAULTS)
 }
 
@@ -370,28 +522,28 @@ fn wait_so(
     Ok(())
 }
 
-/// A request of 18 bytes.
-const SHORT: &[u8] = b"GET / HTTP/1.1\r\n\r\ntail";
+/// A request of 24 bytes.
+const SHORT: &[u8] = b"GET / HTTP/1.1\nHost:p\r\n\ntail";
 
-/// A head of 38 bytes and a body of 38.
+/// A head of 44 bytes and a body of 44.
 const EVEN: &[u8] =
-    b"GET / HTTP/1.1\r\nContent-Length: 38\r\n\r\n01234567890123456789012345678901234567tail";
+    b"GET / HTTP/1.1\nHost:p\nContent-Length: 44\r\n\r\n01234567890123456789012345678901234567890123tail";
 
 const FIRSTS: [(&str, &[u8], usize, &str); 5] = [
-    ("three pieces", SHORT, 6, "GET|/||-|-|plain|;tail"),
-    ("two pieces", SHORT, 9, "GET|/||-|-|plain|;tail"),
-    ("one piece", SHORT, 18, "GET|/||-|-|plain|;tail"),
+    ("three pieces", SHORT, 8, "GET|/||-|-|plain|open|;tail"),
+    ("two pieces", SHORT, 12, "GET|/||-|-|plain|open|;tail"),
+    ("one piece", SHORT, 24, "GET|/||-|-|plain|open|;tail"),
     (
         "the body behind the head",
         EVEN,
-        38,
-        "GET|/||-|-|plain|01234567890123456789012345678901234567;tail",
+        44,
+        "GET|/||-|-|plain|open|01234567890123456789012345678901234567890123;tail",
     ),
     (
         "the body in parts",
         EVEN,
-        19,
-        "GET|/||-|-|plain|01234567890123456789012345678901234567;tail",
+        22,
+        "GET|/||-|-|plain|open|01234567890123456789012345678901234567890123;tail",
     ),
 ];
 

@@ -1,24 +1,16 @@
-ghost use Rattle.std.specs.Prelude.{◌≡◌, ◌≤◌, ◌+◌, drop, length, IfOk, IsUtf8};
+ghost use Rattle.std.specs.Prelude.{◌≡◌, ◌≤◌, ◌+◌, drop, length, IfOk};
 ghost use Rattle.std.specs.List.{before_first, after_first};
 ghost use Rattle.http_conn.specs.Stream.{IsRequest, is_mark};
 ghost use Rattle.http_conn.specs.Parts.{IsHead};
 
 use crate::Request;
-use crate::fields::{is_encoded, joined_values};
+use crate::asked::asked_text;
+use crate::fields::{asks_close, is_encoded, joined_values};
 use crate::judge::Head;
 use gate_io::{Items, Text};
 use http::Method;
 use httparse::spans::HeaderSpan;
 use std::alloc::{AllocError, Global};
-use std::str;
-
-/// The text of a target, which a head has in UTF-8 alone.
-fn target_text(bytes: &[u8]) -> &str
-    requires { IsUtf8 bytes.now }
-    ensures { result.now ≡ bytes.now }
-{
-    str::from_utf8(bytes).unwrap()
-}
 
 /// The path and the query of a target.
 fn target_parts(target: &str) -> (&str, &str)
@@ -54,7 +46,7 @@ pub(crate) fn make_request(
 {
     let spans = head.spans;
     let fields = &headers[..spans.headers];
-    let (path, query) = target_parts(target_text(spans.path.of(buf)));
+    let (path, query) = target_parts(asked_text(spans.path.of(buf)));
     let method = method_of(alloc, spans.method.of(buf))?;
     let path = Text::from_str(alloc, path)?;
     let query = Text::from_str(alloc, query)?;
@@ -68,7 +60,7 @@ pub(crate) fn make_request(
         accept,
         content_type,
         encoded: is_encoded(buf, fields),
-        close: false,
+        close: asks_close(buf, fields, spans.version),
         body,
     })
 }

@@ -1,21 +1,22 @@
 -- A connection so far: the requests that were answered, and what is still to come. What is said of the requests and their
 -- replies is a parameter.
-use Rattle.std.proofs.Common.{◌≡◌, ℕ, ◌+◌, ◌<◌, Bool, true, List, [], ◌∷◌, ◌++◌, length, take, Option, None, Some, refl, ap, sym, subst, ◌∙◌, arith, append_assoc, append-nil, length-append, inl, inr}
+use Rattle.std.proofs.Common.{◌≡◌, ℕ, ◌+◌, ◌<◌, Bool, true, false, List, [], ◌∷◌, ◌++◌, length, take, Option, None, Some, refl, ap, sym, subst, ◌∙◌, arith, append_assoc, append-nil, length-append, inl, inr}
 use Rattle.std.specs.Prelude.{◌⊎◌, ◌==◌, ◌||◌}
 use Rattle.std.specs.Io.KnownBytes.{Appends, Consumes}
 use Rattle.gate_io.proofs.Known.{Appends-trans}
 use Rattle.rest_codes.specs.Response.{response_of}
 use Rattle.rest_codes.specs.declared.response.Reply.{Reply}
 use Rattle.http_conn.specs.declared.request.Request.{Request}
-use Rattle.http_conn.specs.Stream.{Ending, Begins, IsRequest, EndsBehind, max_requests}
+use Rattle.http_conn.specs.Stream.{Ending, Begins, EndsBehind, is_closed, max_requests}
 use Rattle.http_conn.specs.Stream.Ending.{End, Closed, Limit, CutShort, BadPlace}
+use Rattle.http_conn.proofs.BeginLemmas.{begins_push}
 use Rattle.http_conn.proofs.BeginsLemmas.{begins_cut}
-use Rattle.http_conn.specs.Told.{Comes, LastRead}
+use Rattle.http_conn.specs.Told.{Comes, Conn, LastRead}
 use Rattle.http_conn.specs.Next.{IsWaiting, NeedsMore}
 use Rattle.proxy_cli.specs.Served.{closes, responses}
 use Rattle.proxy_cli.specs.Ended.{TellsEnd}
 use Rattle.proxy_cli.specs.declared.ended.EndWhy.{EndWhy}
-use Rattle.proxy_cli.specs.declared.ended.EndWhy.TheVariants.{Limit as AtTheLimit}
+use Rattle.proxy_cli.specs.declared.ended.EndWhy.TheVariants.{Limit as AtTheLimit, Closed as AtAClose}
 use Rattle.proxy_cli.specs.Patience.{AskedBehind, ReadsBefore, ReadsBehind, ReadsTo, Took}
 use Rattle.proxy_cli.specs.Session.{Whole, Lost, Starved, CutOff, SplitsLast}
 use Rattle.proxy_cli.specs.Turn.{ServesOne, EndsAs, EndsHere, CutAt, CutsReply, CutsRefusal}
@@ -26,13 +27,14 @@ abbrev pub Said : Type 1
 Said = List Request → List Reply → Type 0
 
 -- the connection so far, after so many requests
-pub record Progress {S : Type 0} (left asked : S → Option (List ℕ)) (first s : S) (answers : Said) (input : List ℕ) (before now : Option (List ℕ)) (count : ℕ) (held : List ℕ) : Type 0 where
+pub record Progress {S : Type 0} (left asked : S → Option (List ℕ)) (first s : S) (answers : Said) (input : List ℕ) (before now : Option (List ℕ)) (count : ℕ) (conn : Conn) : Type 0 where
   pub requests : List Request
   pub replies : List Reply
   pub rest : List ℕ
   pub counted : length requests ≡ count
   pub paired : length replies ≡ length requests
-  pub comes : Comes held (left s) rest
+  pub comes : Comes conn.held (left s) rest
+  pub closed : is_closed requests ≡ conn.over
   pub begins : Begins 0 input requests rest
   pub answered : answers requests replies
   pub wrote : Appends before now (responses 0 requests replies)
@@ -76,9 +78,11 @@ reads_behind {S} left asked first s s2 input requests rest held begins comes las
 
 -- ---- one request more
 
-begins_more : (n : ℕ) (all : List ℕ) (rs : List Request) (rest mid : List ℕ) (r : Request) → n + length rs < max_requests → Begins n all rs rest → IsRequest rest r mid → Begins n all (rs ++ r ∷ []) mid
-begins_more n all [] rest mid r lt begins is = (omega (arith, lt), (mid, subst (λ (l : List ℕ). IsRequest l r mid) (sym begins) is, refl))
-begins_more n all (q ∷ qs) rest mid r lt begins is = (begins.0, (begins.1.0, begins.1.1, begins_more (n + 1) begins.1.0 qs rest mid r (omega (arith, lt)) begins.1.2 is))
+-- the last request closes or doesn't, as one more does
+closed_more : (rs : List Request) (r : Request) → is_closed (rs ++ r ∷ []) ≡ r.close
+closed_more [] r = refl
+closed_more (q ∷ []) r = refl
+closed_more (q ∷ p ∷ rs) r = closed_more (p ∷ rs) r
 
 responses_more : (n : ℕ) (rs : List Request) (ps : List Reply) (r : Request) (p : Reply) → length ps ≡ length rs
     → responses n (rs ++ r ∷ []) (ps ++ p ∷ []) ≡ responses n rs ps ++ response_of p (closes (n + length rs) r)
@@ -91,11 +95,11 @@ responses_more n (q ∷ rs) (x ∷ ps) r p same =
     ∙ (sym (append_assoc (response_of x (closes n q)) (responses (n + 1) rs ps) (response_of p (closes (n + 1 + length rs) r)))
     ∙ ap (λ (k : ℕ). (response_of x (closes n q) ++ responses (n + 1) rs ps) ++ response_of p (closes k r)) e)
 
-pub progress_more : {S : Type 0} (left asked : S → Option (List ℕ)) (first s s2 : S) (answers answers2 : Said) (one : Request → Reply → Type 0) (input : List ℕ) (before now next : Option (List ℕ)) (count : ℕ) (held held2 : List ℕ) (close : Bool)
-    → count < max_requests → Progress left asked first s answers input before now count held → GoesOnBy answers one answers2
-    → ((all : List ℕ) → Comes held (left s) all → ServesOne one all held2 (left s2) now next close) → LastRead left asked held s s2 NeedsMore → close ≡ (count + 1 == max_requests)
-    → Progress left asked first s2 answers2 input before next (count + 1) held2
-progress_more left asked first s s2 answers answers2 one input before now next count held held2 close lt so_far more step last is =
+pub progress_more : {S : Type 0} (left asked : S → Option (List ℕ)) (first s s2 : S) (answers answers2 : Said) (one : Request → Reply → Type 0) (input : List ℕ) (before now next : Option (List ℕ)) (count : ℕ) (conn conn2 : Conn) (close : Bool)
+    → count < max_requests → conn.over ≡ false → Progress left asked first s answers input before now count conn → GoesOnBy answers one answers2
+    → ((all : List ℕ) → Comes conn.held (left s) all → ServesOne one all conn2 (left s2) now next close) → LastRead left asked conn.held s s2 NeedsMore → close ≡ (count + 1 == max_requests)
+    → Progress left asked first s2 answers2 input before next (count + 1) conn2
+progress_more left asked first s s2 answers answers2 one input before now next count conn conn2 close lt still so_far more step last is =
     let one = step so_far.rest so_far.comes in
     let closing : (one.request.close || close) ≡ closes (0 + length so_far.requests) one.request =
     ap (λ (k : Bool). one.request.close || k) (is ∙ ap (λ (k : ℕ). k + 1 == max_requests) (omega (arith, so_far.counted))) in
@@ -106,12 +110,13 @@ progress_more left asked first s s2 answers answers2 one input before now next c
       counted = omega (arith, so_far.counted, length-append so_far.requests (one.request ∷ []));
       paired = omega (arith, so_far.paired, length-append so_far.requests (one.request ∷ []), length-append so_far.replies (one.reply ∷ []));
       comes = one.comes;
-      begins = begins_more 0 input so_far.requests so_far.rest one.rest one.request (omega (arith, lt, so_far.counted)) so_far.begins one.is;
+      closed = closed_more so_far.requests one.request ∙ sym one.over;
+      begins = begins_push 0 input so_far.requests so_far.rest one.request one.rest so_far.begins (omega (arith, lt, so_far.counted)) (so_far.closed ∙ still) one.is;
       answered = more so_far.requests so_far.replies one.request one.reply so_far.paired so_far.answered one.answered;
       wrote =
           subst (λ (l : List ℕ). Appends before next l) (sym (responses_more 0 so_far.requests so_far.replies one.request one.reply so_far.paired))
           (Appends-trans before now next (responses 0 so_far.requests so_far.replies) _ so_far.wrote (subst (λ (k : Bool). Appends now next (response_of one.reply k)) closing one.wrote));
-      reads = reads_more left asked first s s2 input so_far.requests one.request so_far.rest held so_far.begins so_far.comes last so_far.reads;
+      reads = reads_more left asked first s s2 input so_far.requests one.request so_far.rest conn.held so_far.begins so_far.comes last so_far.reads;
     }
 
 -- ---- the start, and the ends
@@ -120,7 +125,7 @@ comes_all : (input : List ℕ) (left : Option (List ℕ)) → left ≡ Some inpu
 comes_all input None told = absurd (cc told)
 comes_all input (Some xs) told = told
 
-pub progress_start : {S : Type 0} (left asked : S → Option (List ℕ)) (first : S) (answers : Said) (input : List ℕ) (before : Option (List ℕ)) → answers [] [] → left first ≡ Some input → Progress left asked first first answers input before before 0 []
+pub progress_start : {S : Type 0} (left asked : S → Option (List ℕ)) (first : S) (answers : Said) (input : List ℕ) (before : Option (List ℕ)) → answers [] [] → left first ≡ Some input → Progress left asked first first answers input before before 0 (record { held = []; over = false })
 progress_start left asked first answers input before none told = record {
   requests = [];
   replies = [];
@@ -128,18 +133,19 @@ progress_start left asked first answers input before none told = record {
   counted = refl;
   paired = refl;
   comes = comes_all input (left first) told;
+  closed = refl;
   begins = refl;
   answered = none;
   wrote = nothing_appended before;
   reads = inl refl;
 }
 
-ends_behind : (n : ℕ) (rest : List ℕ) (ending : Ending) → n < max_requests → EndsAs rest ending → EndsBehind n rest ending
-ends_behind n rest End lt ends = (lt, ends)
-ends_behind n rest Closed lt ends = absurd ends
-ends_behind n rest Limit lt ends = absurd ends
-ends_behind n rest (CutShort due) lt ends = (lt, ends.0, ends.1)
-ends_behind n rest (BadPlace due r) lt ends = (lt, ends.0, ends.1)
+ends_behind : (n : ℕ) (closed : Bool) (rest : List ℕ) (ending : Ending) → n < max_requests → closed ≡ false → EndsAs rest ending → EndsBehind n closed rest ending
+ends_behind n closed rest End lt still ends = (lt, still, ends)
+ends_behind n closed rest Closed lt still ends = absurd ends
+ends_behind n closed rest Limit lt still ends = absurd ends
+ends_behind n closed rest (CutShort due) lt still ends = (lt, still, ends.0, ends.1)
+ends_behind n closed rest (BadPlace due r) lt still ends = (lt, still, ends.0, ends.1)
 
 reads_to : {S : Type 0} (asked : S → Option (List ℕ)) (first s : S) (input : List ℕ) (requests : List Request) (rest : List ℕ) (ending : Ending) → EndsAs rest ending → ReadsBehind asked first s input requests → ReadsTo asked first s input requests ending
 reads_to asked first s input requests rest End ends reads = reads
@@ -148,10 +154,10 @@ reads_to asked first s input requests rest Limit ends reads = absurd ends
 reads_to asked first s input requests rest (CutShort due) ends reads = reads
 reads_to asked first s input requests rest (BadPlace due r) ends reads = reads
 
-pub progress_end : {S : Type 0} (left asked : S → Option (List ℕ)) (first s s2 : S) (answers : Said) (input : List ℕ) (before now next : Option (List ℕ)) (count : ℕ) (held : List ℕ) (why : EndWhy)
-    → count < max_requests → Progress left asked first s answers input before now count held → LastRead left asked held s s2 NeedsMore → ((all : List ℕ) → Comes held (left s) all → EndsHere why all (left s2) now next)
+pub progress_end : {S : Type 0} (left asked : S → Option (List ℕ)) (first s s2 : S) (answers : Said) (input : List ℕ) (before now next : Option (List ℕ)) (count : ℕ) (conn : Conn) (why : EndWhy)
+    → count < max_requests → conn.over ≡ false → Progress left asked first s answers input before now count conn → LastRead left asked conn.held s s2 NeedsMore → ((all : List ℕ) → Comes conn.held (left s) all → EndsHere why all (left s2) now next)
     → (written : List ℕ) × Appends before next written × ((whole : Whole answers input written) × Took left asked first s2 input whole.requests whole.ending whole.stream.rest × TellsEnd (record { requests = count; why = why }) whole.requests whole.ending)
-progress_end left asked first s s2 answers input before now next count held why lt so_far last end =
+progress_end left asked first s s2 answers input before now next count conn why lt still so_far last end =
     let here = end so_far.rest so_far.comes in (
       responses 0 so_far.requests so_far.replies ++ here.last,
       Appends-trans before now next (responses 0 so_far.requests so_far.replies) here.last so_far.wrote here.wrote,
@@ -159,7 +165,7 @@ progress_end left asked first s s2 answers input before now next count held why 
         record {
           requests = so_far.requests;
           ending = here.ending;
-          stream = record { rest = so_far.rest; begins = so_far.begins; ends = ends_behind (length so_far.requests) so_far.rest here.ending (omega (arith, lt, so_far.counted)) here.ends };
+          stream = record { rest = so_far.rest; begins = so_far.begins; ends = ends_behind (length so_far.requests) (is_closed so_far.requests) so_far.rest here.ending (omega (arith, lt, so_far.counted)) (so_far.closed ∙ still) here.ends };
           replies = so_far.replies;
           answered = so_far.answered;
           last = here.last;
@@ -171,16 +177,16 @@ progress_end left asked first s s2 answers input before now next count held why 
           comes = here.comes;
           reads =
               reads_to asked first s2 input so_far.requests so_far.rest here.ending here.ends
-              (reads_behind left asked first s s2 input so_far.requests so_far.rest held so_far.begins so_far.comes last so_far.reads);
+              (reads_behind left asked first s s2 input so_far.requests so_far.rest conn.held so_far.begins so_far.comes last so_far.reads);
         },
         record { count = sym so_far.counted; why = here.is_why },
       ),
     )
 
-pub progress_limit : {S : Type 0} (left asked : S → Option (List ℕ)) (first s : S) (answers : Said) (input : List ℕ) (before now : Option (List ℕ)) (count : ℕ) (held : List ℕ)
-    → Progress left asked first s answers input before now count held → count ≡ max_requests
+pub progress_limit : {S : Type 0} (left asked : S → Option (List ℕ)) (first s : S) (answers : Said) (input : List ℕ) (before now : Option (List ℕ)) (count : ℕ) (conn : Conn)
+    → Progress left asked first s answers input before now count conn → count ≡ max_requests
     → (written : List ℕ) × Appends before now written × ((whole : Whole answers input written) × Took left asked first s input whole.requests whole.ending whole.stream.rest × TellsEnd (record { requests = max_requests; why = AtTheLimit }) whole.requests whole.ending)
-progress_limit left asked first s answers input before now count held so_far full = (
+progress_limit left asked first s answers input before now count conn so_far full = (
   responses 0 so_far.requests so_far.replies,
   so_far.wrote,
   (
@@ -194,14 +200,36 @@ progress_limit left asked first s answers input before now count held so_far ful
       ends = refl;
       output = sym (append-nil (responses 0 so_far.requests so_far.replies));
     },
-    record { held = held; comes = so_far.comes; reads = so_far.reads },
+    record { held = conn.held; comes = so_far.comes; reads = so_far.reads },
     record { count = sym (so_far.counted ∙ full); why = tt },
   ),
 )
 
-pub progress_starved : {S : Type 0} (left asked : S → Option (List ℕ)) (first s : S) (answers : Said) (input : List ℕ) (before now : Option (List ℕ)) (count : ℕ) (held : List ℕ)
-    → Progress left asked first s answers input before now count held → (written : List ℕ) × Appends before now written × Starved answers input written
-progress_starved left asked first s answers input before now count held so_far = (
+pub progress_closed : {S : Type 0} (left asked : S → Option (List ℕ)) (first s : S) (answers : Said) (input : List ℕ) (before now : Option (List ℕ)) (count : ℕ) (conn : Conn)
+    → count < max_requests → conn.over ≡ true → Progress left asked first s answers input before now count conn
+    → (written : List ℕ) × Appends before now written × ((whole : Whole answers input written) × Took left asked first s input whole.requests whole.ending whole.stream.rest × TellsEnd (record { requests = count; why = AtAClose }) whole.requests whole.ending)
+progress_closed left asked first s answers input before now count conn lt over so_far = (
+  responses 0 so_far.requests so_far.replies,
+  so_far.wrote,
+  (
+    record {
+      requests = so_far.requests;
+      ending = Closed;
+      stream = record { rest = so_far.rest; begins = so_far.begins; ends = (omega (arith, lt, so_far.counted), so_far.closed ∙ over) };
+      replies = so_far.replies;
+      answered = so_far.answered;
+      last = [];
+      ends = refl;
+      output = sym (append-nil (responses 0 so_far.requests so_far.replies));
+    },
+    record { held = conn.held; comes = so_far.comes; reads = so_far.reads },
+    record { count = sym so_far.counted; why = tt },
+  ),
+)
+
+pub progress_starved : {S : Type 0} (left asked : S → Option (List ℕ)) (first s : S) (answers : Said) (input : List ℕ) (before now : Option (List ℕ)) (count : ℕ) (conn : Conn)
+    → Progress left asked first s answers input before now count conn → (written : List ℕ) × Appends before now written × Starved answers input written
+progress_starved left asked first s answers input before now count conn so_far = (
   responses 0 so_far.requests so_far.replies,
   so_far.wrote,
   record { requests = so_far.requests; rest = so_far.rest; begins = so_far.begins; replies = so_far.replies; answered = so_far.answered; output = refl },
@@ -212,11 +240,11 @@ progress_starved left asked first s answers input before now count held so_far =
 some_is : (x y : List ℕ) → Some x ≡ Some y → x ≡ y
 some_is x y e = cc e
 
-pub progress_lost : {S : Type 0} (left asked : S → Option (List ℕ)) (first s s2 : S) (answers : Said) (input : List ℕ) (before now : Option (List ℕ)) (count : ℕ) (held held2 : List ℕ)
-    → left first ≡ Some input → Progress left asked first s answers input before now count held
-    → ((all : List ℕ) → Comes held (left s) all → Comes held2 (left s2) all × IsWaiting held2)
+pub progress_lost : {S : Type 0} (left asked : S → Option (List ℕ)) (first s s2 : S) (answers : Said) (input : List ℕ) (before now : Option (List ℕ)) (count : ℕ) (conn : Conn) (held2 : List ℕ)
+    → left first ≡ Some input → conn.over ≡ false → Progress left asked first s answers input before now count conn
+    → ((all : List ℕ) → Comes conn.held (left s) all → Comes held2 (left s2) all × IsWaiting held2)
     → (got : List ℕ) × (written : List ℕ) × Consumes (left first) (left s2) got × Appends before now written × Lost answers got written
-progress_lost left asked first s s2 answers input before now count held held2 told so_far lost =
+progress_lost left asked first s s2 answers input before now count conn held2 told still so_far lost =
     let here = lost so_far.rest so_far.comes in
     go (left first) (left s2) told here.0 here.1
   where
@@ -230,7 +258,7 @@ progress_lost left asked first s s2 answers input before now count held held2 to
           responses 0 so_far.requests so_far.replies,
           some_is x input told ∙ cut.1,
           so_far.wrote,
-          record { requests = so_far.requests; stream = record { rest = held2; begins = cut.2; waits = waits }; replies = so_far.replies; answered = so_far.answered; output = refl },
+          record { requests = so_far.requests; stream = record { rest = held2; begins = cut.2; goes = so_far.closed ∙ still; waits = waits }; replies = so_far.replies; answered = so_far.answered; output = refl },
         )
 
 -- ---- a write that failed
@@ -249,11 +277,11 @@ splits_last n (q ∷ q2 ∷ rs) (x ∷ ps) r p same =
     )
 
 -- the response to one request more was cut
-pub progress_cut : {S : Type 0} (left asked : S → Option (List ℕ)) (first s s2 : S) (answers answers2 : Said) (one : Request → Reply → Type 0) (input : List ℕ) (before now next : Option (List ℕ)) (count n : ℕ) (held : List ℕ) (close : Bool)
-    → count < max_requests → Progress left asked first s answers input before now count held → GoesOnBy answers one answers2 → LastRead left asked held s s2 NeedsMore
-    → ((all : List ℕ) → Comes held (left s) all → CutsReply one n all now next close ⊎ (CutsRefusal n all now next × ((qs : List Request) (rs : List Reply) → answers qs rs → answers2 qs rs)))
+pub progress_cut : {S : Type 0} (left asked : S → Option (List ℕ)) (first s s2 : S) (answers answers2 : Said) (one : Request → Reply → Type 0) (input : List ℕ) (before now next : Option (List ℕ)) (count n : ℕ) (conn : Conn) (close : Bool)
+    → count < max_requests → conn.over ≡ false → Progress left asked first s answers input before now count conn → GoesOnBy answers one answers2 → LastRead left asked conn.held s s2 NeedsMore
+    → ((all : List ℕ) → Comes conn.held (left s) all → CutsReply one n all now next close ⊎ (CutsRefusal n all now next × ((qs : List Request) (rs : List Reply) → answers qs rs → answers2 qs rs)))
     → close ≡ (count + 1 == max_requests) → (written : List ℕ) × Appends before next written × CutOff asked first s2 answers2 input written n
-progress_cut left asked first s s2 answers answers2 one input before now next count n held close lt so_far more last cuts is = go (cuts so_far.rest so_far.comes)
+progress_cut left asked first s s2 answers answers2 one input before now next count n conn close lt still so_far more last cuts is = go (cuts so_far.rest so_far.comes)
   where
     go : CutsReply one n so_far.rest now next close ⊎ (CutsRefusal n so_far.rest now next × ((qs : List Request) (rs : List Reply) → answers qs rs → answers2 qs rs))
         → (written : List ℕ) × Appends before next written × CutOff asked first s2 answers2 input written n
@@ -267,14 +295,14 @@ progress_cut left asked first s s2 answers answers2 one input before now next co
           record {
             requests = so_far.requests ++ one.request ∷ [];
             rest = one.rest;
-            begins = begins_more 0 input so_far.requests so_far.rest one.rest one.request (omega (arith, lt, so_far.counted)) so_far.begins one.is;
+            begins = begins_push 0 input so_far.requests so_far.rest one.request one.rest so_far.begins (omega (arith, lt, so_far.counted)) (so_far.closed ∙ still) one.is;
             replies = so_far.replies ++ one.reply ∷ [];
             answered = more so_far.requests so_far.replies one.request one.reply so_far.paired so_far.answered one.answered;
             before = responses 0 so_far.requests so_far.replies;
             last = bytes;
             cut = inl (
               splits_last 0 so_far.requests so_far.replies one.request one.reply so_far.paired,
-              reads_more left asked first s s2 input so_far.requests one.request so_far.rest held so_far.begins so_far.comes last so_far.reads,
+              reads_more left asked first s s2 input so_far.requests one.request so_far.rest conn.held so_far.begins so_far.comes last so_far.reads,
             );
             within = cut.0;
             output = refl;
@@ -293,8 +321,9 @@ progress_cut left asked first s s2 answers answers2 one input before now next co
         last = response_of one.said true;
         cut = inr (
           refl,
+          so_far.closed ∙ still,
           (one.wanted, one.bad, (one.said, one.replied, refl)),
-          reads_behind left asked first s s2 input so_far.requests so_far.rest held so_far.begins so_far.comes last so_far.reads,
+          reads_behind left asked first s s2 input so_far.requests so_far.rest conn.held so_far.begins so_far.comes last so_far.reads,
         );
         within = one.cut.0;
         output = refl;
@@ -303,15 +332,16 @@ progress_cut left asked first s s2 answers answers2 one input before now next co
 
 -- ---- where nothing was done in a turn
 
-pub same_held : {S : Type 0} (left asked : S → Option (List ℕ)) (first s : S) (answers answers2 : Said) (input : List ℕ) (before now next : Option (List ℕ)) (count : ℕ) (held : List ℕ)
-    → next ≡ now → ((qs : List Request) (rs : List Reply) → answers qs rs → answers2 qs rs) → Progress left asked first s answers input before now count held → Progress left asked first s answers2 input before next count held
-same_held left asked first s answers answers2 input before now next count held same still so_far = record {
+pub same_held : {S : Type 0} (left asked : S → Option (List ℕ)) (first s : S) (answers answers2 : Said) (input : List ℕ) (before now next : Option (List ℕ)) (count : ℕ) (conn : Conn)
+    → next ≡ now → ((qs : List Request) (rs : List Reply) → answers qs rs → answers2 qs rs) → Progress left asked first s answers input before now count conn → Progress left asked first s answers2 input before next count conn
+same_held left asked first s answers answers2 input before now next count conn same still so_far = record {
   requests = so_far.requests;
   replies = so_far.replies;
   rest = so_far.rest;
   counted = so_far.counted;
   paired = so_far.paired;
   comes = so_far.comes;
+  closed = so_far.closed;
   begins = so_far.begins;
   answered = still so_far.requests so_far.replies so_far.answered;
   wrote = subst (λ (k : Option (List ℕ)). Appends before k (responses 0 so_far.requests so_far.replies)) (sym same) so_far.wrote;

@@ -2,10 +2,10 @@
 use Rattle.std.specs.Prelude.{◌≡◌, List, length}
 use Rattle.http_conn.specs.declared.request.Request.{Request}
 use Rattle.http_conn.specs.Stream.{Ending}
-use Rattle.http_conn.specs.Stream.Ending.{End, CutShort, BadPlace, Limit}
+use Rattle.http_conn.specs.Stream.Ending.{End, CutShort, BadPlace, Limit, Closed}
 use Rattle.proxy_cli.specs.declared.ended.Ended.{Ended}
 use Rattle.proxy_cli.specs.declared.ended.EndWhy.{EndWhy}
-use Rattle.proxy_cli.specs.declared.ended.EndWhy.TheVariants.{End as AtTheEnd, CutShort as InARequest, BadPlace as AtABadPlace, Limit as AtTheLimit}
+use Rattle.proxy_cli.specs.declared.ended.EndWhy.TheVariants.{End as AtTheEnd, CutShort as InARequest, BadPlace as AtABadPlace, Limit as AtTheLimit, Closed as AtAClose}
 
 -- the reason is this ending
 abbrev pub IsWhy : EndWhy → Ending → Type 0
@@ -13,6 +13,7 @@ IsWhy AtTheEnd End = Unit {0}
 IsWhy InARequest (CutShort due) = Unit {0}
 IsWhy AtABadPlace (BadPlace due reply) = Unit {0}
 IsWhy AtTheLimit Limit = Unit {0}
+IsWhy AtAClose Closed = Unit {0}
 IsWhy why ending = ⊥
 
 -- so many requests stand in the bytes, and the reason is how they end

@@ -1,13 +1,13 @@
 -- A session: what is written for the bytes of its input. `answers` says that requests were answered with replies: that of one
 -- caller over one shard here, and any other for a connection of another kind.
-use Rattle.std.specs.Prelude.{◌≡◌, ◌⊎◌, ◌<◌, ℕ, ◌+◌, List, [], ◌∷◌, ◌++◌, length, take, true, Option, Some, ⊤}
+use Rattle.std.specs.Prelude.{◌≡◌, ◌⊎◌, ◌<◌, ℕ, ◌+◌, List, [], ◌∷◌, ◌++◌, length, take, true, false, Option, Some, ⊤}
 use Rattle.std.specs.Io.KnownBytes.{Appends, Consumes}
 use Rattle.gate_io.specs.Clocks.{Hand}
 use Rattle.broker_link.specs.Made.{empty_log, no_counts}
 use Rattle.rest_codes.specs.Response.{response_of}
 use Rattle.rest_codes.specs.declared.response.Reply.{Reply}
 use Rattle.http_conn.specs.declared.request.Request.{Request}
-use Rattle.http_conn.specs.Stream.{Ending, Stream, StreamSoFar, Begins, IsBad}
+use Rattle.http_conn.specs.Stream.{Ending, Stream, StreamSoFar, Begins, IsBad, is_closed}
 use Rattle.http_conn.specs.Stream.Ending.{BadPlace}
 use Rattle.model.specs.World.{nobody}
 use Rattle.desk.specs.Stepping.{never}
@@ -59,11 +59,11 @@ SplitsLast n (q ∷ []) (r ∷ rs) before last = (before ≡ []) × (last ≡ re
 SplitsLast n (q ∷ q2 ∷ qs) (r ∷ rs) before last = (mid : List ℕ) × (before ≡ response_of r (closes n q) ++ mid) × SplitsLast (n + 1) (q2 ∷ qs) rs mid last
 
 -- The response that was cut is that to the last request, and nothing was read once that was whole, or it is that to a bad place
--- behind all requests.
+-- behind all requests, of which none closes.
 abbrev pub IsCutResponse : (whole behind : Type 0) → List ℕ → List Request → List Reply → List ℕ → List ℕ → Type 0
 IsCutResponse whole behind rest requests replies before last =
     (SplitsLast 0 requests replies before last × whole)
-    ⊎ ((before ≡ responses 0 requests replies) × ((r : Reply) × IsBad rest r × ((said : Reply) × OrWant r said × (last ≡ response_of said true))) × behind)
+    ⊎ ((before ≡ responses 0 requests replies) × (is_closed requests ≡ false) × ((r : Reply) × IsBad rest r × ((said : Reply) × OrWant r said × (last ≡ response_of said true))) × behind)
 
 -- A session whose write failed: n bytes of the last response were written, and its call has had its effect. A body can't foresee which
 -- write fails, so whichever did, the request that it answers was read to its end by the last read before it.

@@ -6,18 +6,19 @@ use Rattle.rest_codes.specs.declared.response.Reply.{Reply}
 use Rattle.http_conn.specs.declared.request.Request.{Request}
 use Rattle.http_conn.specs.Stream.{Ending, IsRequest, IsCut, IsBad}
 use Rattle.http_conn.specs.Stream.Ending.{End, Closed, Limit, CutShort, BadPlace}
-use Rattle.http_conn.specs.Told.{Comes}
+use Rattle.http_conn.specs.Told.{Comes, Conn}
 use Rattle.proxy_cli.specs.Ended.{IsWhy}
 use Rattle.proxy_cli.specs.declared.ended.EndWhy.{EndWhy}
 use Rattle.proxy_cli.specs.Served.{OrWant}
 use Rattle.proxy_cli.specs.Session.{IsLast}
 
--- one request of what is still to come was answered, and the rest is still to come
-pub record ServesOne (answers : Request → Reply → Type 0) (all held : List ℕ) (left : Option (List ℕ)) (before now : Option (List ℕ)) (close : Bool) : Type 0 where
+-- one request of what is still to come was answered, the rest is still to come, and the connection is over if the request closes
+pub record ServesOne (answers : Request → Reply → Type 0) (all : List ℕ) (conn : Conn) (left : Option (List ℕ)) (before now : Option (List ℕ)) (close : Bool) : Type 0 where
   pub request : Request
   pub reply : Reply
   pub rest : List ℕ
-  pub comes : Comes held left rest
+  pub comes : Comes conn.held left rest
+  pub over : conn.over ≡ request.close
   pub is : IsRequest all request rest
   pub answered : answers request reply
   pub wrote : Appends before now (response_of reply (request.close || close))

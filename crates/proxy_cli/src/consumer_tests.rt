@@ -582,3 +582,13 @@ fn a_produce_that_the_broker_refuses_stores_nothing(rt: HostRuntime) -> Result<(
     assert_eq!(rt; told.as_str(), wanted.as_str());
     Ok(())
 }
+
+const CLOSED: &str =
+    "1 Closed\nHTTP/1.1 404 Not Found\r\nContent-Type: application/vnd.kafka.v2+json\r\nContent-Length: 41\r\nConnection: close\r\n\r\n{\"error_code\":404,\"message\":\"Not found.\"}";
+
+#[test]
+fn a_request_that_closes_is_the_last_that_is_answered(rt: HostRuntime) -> Result<(), Fail> {
+    let told = served(rt.alloc(), "GET / HTTP/1.0\n\nGET / HTTP/1.0\n\n")?;
+    assert_eq!(rt; told.as_str(), CLOSED);
+    Ok(())
+}

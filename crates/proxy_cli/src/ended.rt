@@ -9,6 +9,8 @@ pub enum EndWhy {
     BadPlace,
     /// As many requests were answered as a connection may have.
     Limit,
+    /// The last request closes, and its response said so.
+    Closed,
 }
 
 /// How a connection ended where nothing failed: how many whole requests came, each of which was

@@ -118,9 +118,8 @@ fn serve_one<S: Source, K: Sink, L: Link + Drop, C: Clock>(
     close: bool,
 ) -> Result<Option<EndWhy>, ConnNo>
     requires { connection.old.over ≡ false }
-    ensures going { result ≡ Ok None → connection.new.over ≡ false }
     ensures served { result ≡ Ok None → IsKnown L.stand desk.old → (all : List ℕ) → Comes connection.old.held (S.left source.old) all
-        → ServesOne (Exchanges L.stand C.tells C.hand desk.old clock.old desk.new clock.new) all connection.new.held (S.left source.new) (K.held sink.old) (K.held sink.new) close }
+        → ServesOne (Exchanges L.stand C.tells C.hand desk.old clock.old desk.new clock.new) all connection.new (S.left source.new) (K.held sink.old) (K.held sink.new) close }
     ensures ended { (why : AWhy) → result ≡ Ok (Some why) → (desk.new ≡ desk.old) × (clock.new ≡ clock.old) × ((all : List ℕ) → Comes connection.old.held (S.left source.old) all → EndsHere why all (S.left source.new) (K.held sink.old) (K.held sink.new)) }
     ensures cut { (n : ℕ) → result ≡ Err (WriteFault n) → IsKnown L.stand desk.old → (all : List ℕ) → Comes connection.old.held (S.left source.old) all
         → CutsReply (Exchanges L.stand C.tells C.hand desk.old clock.old desk.new clock.new) n all (K.held sink.old) (K.held sink.new) close
@@ -181,6 +180,11 @@ pub fn serve_stream<S: Source, K: Sink, L: Link + Drop, C: Clock>(
         Err(Want) => return Err(ConnNo::Want),
     };
     for count in 0..MAX_REQUESTS {
+        if connection.is_over() {
+            let requests = count;
+            let why = EndWhy::Closed;
+            return Ok(Ended { requests, why });
+        }
         let close = count + 1 == MAX_REQUESTS;
         match serve_one(alloc, &mut connection, source, sink, desk, clock, close) {
             Ok(None) => {}

@@ -150,12 +150,17 @@ const FIRST: &str =
 const SECOND: &str =
     "HTTP/1.1 200 OK\r\nContent-Type: application/vnd.kafka.v2+json\r\nContent-Length: 115\r\n\r\n{\"offsets\":[{\"partition\":0,\"offset\":1,\"error_code\":null,\"error\":null}],\"key_schema_id\":null,\"value_schema_id\":null}";
 
-const ELSEWHERE: &str = "GET / HTTP/1.1\r\n\r\n";
+const ELSEWHERE: &str = "GET / HTTP/1.1\nHost:p\n\n";
 
 const NOT_FOUND: &str =
     "HTTP/1.1 404 Not Found\r\nContent-Type: application/vnd.kafka.v2+json\r\nContent-Length: 41\r\n\r\n{\"error_code\":404,\"message\":\"Not found.\"}";
 
-const BAD: &str = "GET / HTTP/1.0\r\n\r\nunread";
+const BAD: &str = "GET / HTTP/1.1\r\n\r\nunread";
+
+const CLOSING: &str = "GET / HTTP/1.0\n\nunread";
+
+const CLOSED: &str =
+    "HTTP/1.1 404 Not Found\r\nContent-Type: application/vnd.kafka.v2+json\r\nContent-Length: 41\r\nConnection: close\r\n\r\n{\"error_code\":404,\"message\":\"Not found.\"}";
 
 const BAD_REQUEST: &str =
     "HTTP/1.1 400 Bad Request\r\nContent-Type: application/vnd.kafka.v2+json\r\nContent-Length: 43\r\nConnection: close\r\n\r\n{\"error_code\":400,\"message\":\"Bad request.\"}";
@@ -278,10 +283,21 @@ fn words_that_ask_for_no_session_are_status_2(rt: HostRuntime) -> Result<(), Fai
     are_not_read(&rt, rt.alloc(), &UNREAD)
 }
 
-const PIECES: [usize; 4] = [1, 3, 100, 4096];
+/// The size of the pieces, the last request and what it is answered.
+const PIECES: [(usize, &str, &str); 5] = [
+    (1, BAD, BAD_REQUEST),
+    (3, BAD, BAD_REQUEST),
+    (3, CLOSING, CLOSED),
+    (100, CLOSING, CLOSED),
+    (4096, CLOSING, CLOSED),
+];
 
-fn pieces_end_so(rt: &impl Abort, alloc: Global, pieces: &[usize]) -> Result<(), Fail> {
-    for piece in pieces {
+fn pieces_end_so(
+    rt: &impl Abort,
+    alloc: Global,
+    cases: &[(usize, &str, &str)],
+) -> Result<(), Fail> {
+    for (piece, end, last) in cases {
         let streams = Streams {
             words: &WORDS,
             read_piece: *piece,
@@ -292,10 +308,10 @@ fn pieces_end_so(rt: &impl Abort, alloc: Global, pieces: &[usize]) -> Result<(),
         let row = Row {
             name: "pieces",
             streams,
-            requests: &[ONE, ELSEWHERE, ONE, BAD],
+            requests: &[ONE, ELSEWHERE, ONE, end],
             left: 0,
             ending: "0 at 0\n",
-            responses: &[FIRST, NOT_FOUND, SECOND, BAD_REQUEST],
+            responses: &[FIRST, NOT_FOUND, SECOND, last],
             written: 1_000_000,
         };
         ends_so(rt, alloc, &row)?;
@@ -309,7 +325,7 @@ fn requests_come_in_any_pieces(rt: HostRuntime) -> Result<(), Fail> {
 }
 
 fn many(alloc: Global, one: &str, count: u32) -> Result<String, Fail> {
-    let mut text = String::with_capacity(alloc, 1_900_000)?;
+    let mut text = String::with_capacity(alloc, 2_400_000)?;
     for _ in 0..count {
         text.push_str(one)?;
     }

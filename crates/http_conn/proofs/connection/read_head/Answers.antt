@@ -15,8 +15,11 @@ returns-clause-front g c =
 pub returns-in-Whole-clause-prompt : goal.returns-in-Whole-clause-prompt
 returns-in-Whole-clause-prompt g c = λ r rest is. prompt_same c.args.held.now c.loop-held.held c.args.source.now c.loop-held.source c.loop-held.invariant.prompt r rest is
 
-pub returns-in-Bad-clause-prompt : goal.returns-in-Bad-clause-prompt
-returns-in-Bad-clause-prompt g c = λ r rest is. prompt_same c.args.held.now c.loop-held.held c.args.source.now c.loop-held.source c.loop-held.invariant.prompt r rest is
+pub returns-in-Refused-clause-prompt : goal.returns-in-Refused-clause-prompt
+returns-in-Refused-clause-prompt g c = λ r rest is. prompt_same c.args.held.now c.loop-held.held c.args.source.now c.loop-held.source c.loop-held.invariant.prompt r rest is
+
+pub returns-in-Lost-clause-prompt : goal.returns-in-Lost-clause-prompt
+returns-in-Lost-clause-prompt g c = λ r rest is. prompt_same c.args.held.now c.loop-held.held c.args.source.now c.loop-held.source c.loop-held.invariant.prompt r rest is
 
 pub returns-clause-prompt : goal.returns-clause-prompt
 returns-clause-prompt g c = λ r rest is. prompt_same c.args.held.now c.loop-held.held c.args.source.now c.loop-held.source c.loop-held.invariant.prompt r rest is

@@ -14,8 +14,8 @@ pub returns-in-Bad-clause-given : goal.returns-in-Bad-clause-given
 returns-in-Bad-clause-given g c =
     let held : List ℕ = c.read_head.new.held in
     let left = g.S.Source.left c.read_head.new.source in
-    let bad : IsBadPlace held = subst (λ (f : Front). FrontIs held c.read_head.new.headers left f) c.in-Bad.is c.in_ok-head.ensures.front in
-    bad_given c.args.held.now held (g.S.Source.left c.args.source.now) left c.bad.result c.bad.ensures.value bad c.in_ok-head.ensures.same
+    let bad : IsBadPlace held c.in-Bad.code = subst (λ (f : Front). FrontIs held c.read_head.new.headers left f) c.in-Bad.is c.in_ok-head.ensures.front in
+    bad_given c.args.held.now held (g.S.Source.left c.args.source.now) left c.bad.result c.in-Bad.code c.bad.ensures.value bad c.in_ok-head.ensures.same
 
 pub returns-then-not-branch-clause-given : goal.returns-then-not-branch-clause-given
 returns-then-not-branch-clause-given g c = λ all comes.

@@ -17,4 +17,4 @@ returns-else-ends_in_target c =
     let room : c.in-Err.field-0 ≢ TooManyHeaders = λ many.
     never_too_many c.args.buf.now _ c.requires.short c.requires.room (c.in-Err.ensures.too_many (ap (λ e. Err e) many)) in
     let never : NeverHasRequest c.args.buf.now = c.in-Err.ensures.invalid room in
-    inr (never, c.if-ends_in_target.ensures.only refl)
+    (never, c.if-ends_in_target.ensures.only refl)

@@ -20,12 +20,14 @@ pub returns-in-Ok-clause-served : goal.returns-in-Ok-clause-served
 returns-in-Ok-clause-served g c = λ e known all comes.
     let given = rw c.in-Ok-Ready.field-0-is at (c.in-Ok-Ready.ensures.given c.requires) in
     let front = given all comes in
+    let over = rw c.in-Ok-Ready.field-0-is at (c.in-Ok-Ready.ensures.closed c.requires) in
     let said = c.in-Ok.ensures.answered known in
     record {
       request = c.in-Ok-Ready.request;
       reply = said.0;
       rest = front.0;
       comes = subst (λ (k : Conn). Comes k.held (g.S.Source.left c.next.new.source) front.0) (sym c.in-Ok.ensures.same) front.1;
+      over = ap (λ (k : Conn). k.over) c.in-Ok.ensures.same ∙ over;
       is = front.2;
       answered = said.1;
       wrote = subst (λ (b : Bool). Appends (g.K.Sink.held c.args.sink.now) (g.K.Sink.held c.exchange.new.sink) (response_of said.0 b)) c.closes-close.ensures said.2;
