@@ -22,6 +22,7 @@ goes_on a b c first second = record {
   keeps = λ tells. keeps_on a.log b.log c.log (first.keeps tells) (second.keeps (first.telling tells));
   is_log = λ tells is. second.is_log (first.telling tells) (first.is_log tells is);
   plainly = λ plain. second.plainly (first.plainly plain);
+  turning = λ turn. second.turning (first.turning turn);
   alone = λ plain. second.alone (first.plainly plain) ∙ first.alone plain;
   counts = counts_on a.counts b.counts c.counts first.counts second.counts;
 }
@@ -36,6 +37,7 @@ goes_nowhere a = record {
   keeps = λ t. keeps_itself a.log;
   is_log = λ t is. is;
   plainly = λ p. p;
+  turning = λ t. t;
   alone = λ p. refl;
   counts = record { faults_kept = omega arith; refusals_kept = omega arith; sent_kept = omega arith; polls_kept = omega arith; beats_kept = omega arith };
 }

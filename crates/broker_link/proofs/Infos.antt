@@ -44,7 +44,7 @@ insert_is x (y ∷ ys) = go (is_below x.name y) refl (insert_is x ys)
         one_more : (n : ℕ) → 1 + n ≡ suc n
         one_more n = omega arith
 
-all_insert : (P : TopicInfo → Type 0) (x : TopicInfo) (ys : List TopicInfo) → P x → All P ys → All P (insert_info x ys)
+pub all_insert : (P : TopicInfo → Type 0) (x : TopicInfo) (ys : List TopicInfo) → P x → All P ys → All P (insert_info x ys)
 all_insert P x [] p all = All-cons P x [] p (All-nil P)
 all_insert P x (y ∷ ys) p all = go (is_below x.name y) refl (all_insert P x ys p (All-tail P y ys all))
   where

@@ -1,13 +1,24 @@
 -- How a link in memory gathers what it tells of its topics.
-use Rattle.std.specs.Prelude.{Bool, true, false, ◌⊎◌, ℕ, ◌≡◌, cond, List, [], ◌∷◌, All, Contains, bytes_eq, Option, Some, None}
+use Rattle.std.specs.Prelude.{Bool, true, false, ◌⊎◌, ℕ, pos, ◌≡◌, cond, List, [], ◌∷◌, All, Contains, bytes_eq, Option, Some, None}
 use Rattle.std.specs.Ordering.{is_lt, nat_cmp}
 use Rattle.std.specs.Cmp.Lexicographic.{slice_cmp}
 use Rattle.model.specs.Log.{Topic}
 use Rattle.broker_link.specs.Metadata.{IsInfo}
+use Rattle.broker_link.specs.declared.link.PartInfo.{PartInfo}
 use Rattle.broker_link.specs.declared.link.TopicInfo.{TopicInfo}
 
 abbrev pub is_below : List ℕ → TopicInfo → Bool
 is_below name y = is_lt (slice_cmp nat_cmp name y.name)
+
+-- the one node leads it and has it
+pub record IsOnNodeOne (part : PartInfo) : Type 0 where
+  pub leader : part.leader ≡ pos 1
+  pub replicas : part.replicas ≡ pos 1 ∷ []
+  pub in_sync : part.in_sync ≡ pos 1 ∷ []
+
+-- each partition of a topic
+abbrev pub AreOnNodeOne : TopicInfo → Type 0
+AreOnNodeOne info = All IsOnNodeOne info.parts
 
 -- put before the first of a greater name
 abbrev pub insert_info : TopicInfo → List TopicInfo → List TopicInfo

@@ -92,7 +92,9 @@ pub trait Link {
     fn metadata(&mut self, alloc: Global, topic: Option<&str>) -> Result<Items<TopicInfo>, LinkNo>
         ensures goes { Reads (stand self.old) (stand self.new) result }
         ensures known { (stand self.old).tells → IfOk result (λ infos. IsMetadata (option_map (λ t. t.now) topic.entry) (stand self.new).log infos) }
-        ensures plainly { (stand self.old).plain → IfErr result (λ e. e ≡ Want) };
+        ensures nodes { IfOk result (All (λ info. All (stand self.old).nodes info.parts)) }
+        ensures plainly { (stand self.old).plain → IfErr result (λ e. e ≡ Want) }
+        ensures quietly { (stand self.old).quiet → IfErr result (λ e. e ≡ Want) };
 
     /// Stores the records of these partitions. Each partition takes all of its records, in order, or
     /// none. Ok answers each in the order asked, by its base or a code; after an Err any of them may
@@ -113,11 +115,12 @@ pub trait Link {
         ensures failed { (stand self.old).tells → OnErr result (MayBePlaced (stand self.old).log (stand self.new).log topic.now parts.now) }
         ensures codes { IfOk result (λ placed. CodeComes (stand self.old).counts (stand self.new).counts (first_code placed)) }
         ensures plainly { (stand self.old).plain → IfErr result (λ e. e ≡ Want) }
+        ensures quietly { (stand self.old).quiet → IfErr result (λ e. e ≡ Want) }
         ensures lacked { (stand self.old).plain → (stand self.old).tells → IfOk result (λ placed. AllZip (IsPlainly (stand self.old).log topic.now) parts.now placed) };
 
     /// First rows of these partitions, each from its offset on, in the order asked. `max_bytes` says how
-    /// many key and value bytes are wanted at most; a plain link gives the rows of the asks in turn until
-    /// one would bring them above it, and the first row always.
+    /// many key and value bytes are wanted at most; a link that gives rows in turn gives those of the asks
+    /// until one would bring them above it, and the first row always.
     fn fetch(
         &mut self,
         alloc: Global,
@@ -129,8 +132,9 @@ pub trait Link {
         ensures goes { Reads (stand self.old) (stand self.new) result }
         ensures fetched { IfOk result (λ fetched. AllZip IsFetched asks.now fetched) }
         ensures got { (stand self.old).tells → IfOk result (AreGot (stand self.new).log asks.now) }
-        ensures turn { (stand self.old).plain → (stand self.old).tells → IfOk result (AreInTurn max_bytes (stand self.new).log asks.now) }
-        ensures plainly { (stand self.old).plain → (stand self.old).tells → HaveAsked (stand self.old).log asks.now → IfErr result (λ e. e ≡ Want) };
+        ensures turn { (stand self.old).in_turn → (stand self.old).tells → IfOk result (AreInTurn max_bytes (stand self.new).log asks.now) }
+        ensures plainly { (stand self.old).plain → (stand self.old).tells → HaveAsked (stand self.old).log asks.now → IfErr result (λ e. e ≡ Want) }
+        ensures quietly { (stand self.old).quiet → (stand self.old).tells → HaveAsked (stand self.old).log asks.now → IfErr result (λ e. e ≡ Want) };
 
     /// The offset of a partition's first row, or the one behind its last.
     fn list_offset(
@@ -144,7 +148,8 @@ pub trait Link {
         ensures goes { Reads (stand self.old) (stand self.new) result }
         ensures low { IfOk result (λ offset. offset ≡ pos (nat_abs offset)) }
         ensures told { (stand self.old).tells → IfOk result (IsEdge (stand self.new).log (named_at topic.now partition) (edge_view edge)) }
-        ensures plainly { (stand self.old).plain → (stand self.old).tells → HasPart (stand self.old).log (named_at topic.now partition) → IfErr result (λ e. e ≡ Want) };
+        ensures plainly { (stand self.old).plain → (stand self.old).tells → HasPart (stand self.old).log (named_at topic.now partition) → IfErr result (λ e. e ≡ Want) }
+        ensures quietly { (stand self.old).quiet → (stand self.old).tells → HasPart (stand self.old).log (named_at topic.now partition) → IfErr result (λ e. e ≡ Want) };
 
     /// The offsets that a group has committed at these partitions, in the order asked; -1 is none.
     fn committed(
@@ -158,5 +163,6 @@ pub trait Link {
         ensures count { IfOk result (λ offsets. length offsets ≡ length parts.now) }
         ensures low { IfOk result (All IsToldOffset) }
         ensures told { (stand self.old).tells → IfOk result (AllZip (IsCommittedAt (stand self.new).log group.now) parts.now) }
-        ensures plainly { (stand self.old).plain → IfErr result (λ e. e ≡ Want) };
+        ensures plainly { (stand self.old).plain → IfErr result (λ e. e ≡ Want) }
+        ensures quietly { (stand self.old).quiet → IfErr result (λ e. e ≡ Want) };
 }

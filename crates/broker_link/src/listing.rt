@@ -1,11 +1,11 @@
 //! What a link in memory tells of its topics.
 
-ghost use Rattle.std.specs.Prelude.{◌≡◌, ◌<◌, ◌^◌, pos, length, IfOk, OnOk, option_map};
+ghost use Rattle.std.specs.Prelude.{◌≡◌, ◌<◌, ◌^◌, pos, length, [], ◌∷◌, All, IfOk, OnOk, option_map};
 ghost use Rattle.std.specs.List.{position, position_or_len};
 ghost use Rattle.model.specs.Log.{shape_of};
 ghost use Rattle.broker_link.specs.Made.{ArePlans};
 ghost use Rattle.broker_link.specs.Metadata.{IsInfo, NumberedFrom};
-ghost use Rattle.broker_link.specs.Infos.{Gathered, insert_info, is_below, TakesIn, wanted};
+ghost use Rattle.broker_link.specs.Infos.{AreOnNodeOne, Gathered, IsOnNodeOne, insert_info, is_below, TakesIn, wanted};
 ghost use Rattle.broker_link.specs.Stored.{log_of};
 
 use crate::topics::MemTopic;
@@ -14,14 +14,17 @@ use gate_io::{Items, Text};
 use std::alloc::{AllocError, Global};
 
 /// The one node.
-fn nodes(alloc: Global) -> Result<Items<i32>, AllocError> {
+fn nodes(alloc: Global) -> Result<Items<i32>, AllocError>
+    ensures { IfOk result (λ nodes. nodes ≡ pos 1 ∷ []) }
+{
     let mut nodes = Items::new(alloc);
     nodes.push(1)?;
     Ok(nodes)
 }
 
 fn make_part(alloc: Global, number: usize) -> Result<PartInfo, AllocError>
-    ensures { number < 2 ^ 31 → IfOk result (λ part. part.number ≡ pos number) }
+    ensures number { number < 2 ^ 31 → IfOk result (λ part. part.number ≡ pos number) }
+    ensures nodes { IfOk result IsOnNodeOne }
 {
     let replicas = nodes(alloc)?;
     let in_sync = nodes(alloc)?;
@@ -36,6 +39,7 @@ fn make_part(alloc: Global, number: usize) -> Result<PartInfo, AllocError>
 fn make_parts(alloc: Global, count: usize) -> Result<Items<PartInfo>, AllocError>
     ensures count { IfOk result (λ parts. length parts ≡ count) }
     ensures numbers { count < 2 ^ 31 → IfOk result (NumberedFrom 0) }
+    ensures nodes { IfOk result (All IsOnNodeOne) }
 {
     let mut parts = Items::new(alloc);
     for number in 0..count {
@@ -45,7 +49,8 @@ fn make_parts(alloc: Global, count: usize) -> Result<Items<PartInfo>, AllocError
 }
 
 fn make_info(alloc: Global, topic: &MemTopic) -> Result<TopicInfo, AllocError>
-    ensures { length topic.now.parts < 2 ^ 31 → IfOk result (IsInfo topic.now) }
+    ensures is { length topic.now.parts < 2 ^ 31 → IfOk result (IsInfo topic.now) }
+    ensures nodes { IfOk result AreOnNodeOne }
 {
     let name = Text::from_str(alloc, topic.name())?;
     let parts = make_parts(alloc, topic.count())?;
@@ -87,7 +92,8 @@ fn gather_one(
     topic: &MemTopic,
     name: Option<&str>,
 ) -> Result<(), AllocError>
-    ensures { length topic.now.parts < 2 ^ 31 → OnOk result (TakesIn (option_map (λ t. t.now) name.entry) topic.now infos.old.items infos.new.items) }
+    ensures takes { length topic.now.parts < 2 ^ 31 → OnOk result (TakesIn (option_map (λ t. t.now) name.entry) topic.now infos.old.items infos.new.items) }
+    ensures nodes { All AreOnNodeOne infos.old.items → OnOk result (All AreOnNodeOne infos.new.items) }
 {
     if !is_wanted(name, topic) {
         return Ok(());
@@ -101,7 +107,8 @@ pub(crate) fn gather(
     topics: &[MemTopic],
     name: Option<&str>,
 ) -> Result<Vec<TopicInfo>, AllocError>
-    ensures { ArePlans (shape_of (log_of topics.now)) → IfOk result (λ infos. Gathered (option_map (λ t. t.now) name.entry) topics.now infos.items) }
+    ensures gathered { ArePlans (shape_of (log_of topics.now)) → IfOk result (λ infos. Gathered (option_map (λ t. t.now) name.entry) topics.now infos.items) }
+    ensures nodes { IfOk result (λ infos. All AreOnNodeOne infos.items) }
 {
     let mut infos = Vec::new(alloc);
     for topic in topics {

@@ -1,6 +1,6 @@
 //! What is to happen at later calls of a link in memory.
 
-ghost use Rattle.std.specs.Prelude.{◌≡◌, ◌∷◌, [], None, IfOk};
+ghost use Rattle.std.specs.Prelude.{◌≡◌, ◌≢◌, ◌∷◌, [], All, None, IfOk};
 ghost use Rattle.broker_link.specs.Stored.{log_with, OthersCame};
 
 use crate::topics::{MemTopics, copy_of};
@@ -34,7 +34,8 @@ pub(crate) struct Script {
 
 /// The code of the first failure that is meant for the call, at this side of its effect.
 pub(crate) fn code_at(fails: &[Fail], call: u64, after: bool) -> Option<i16>
-    ensures { fails.now ≡ [] → result ≡ None }
+    ensures none { fails.now ≡ [] → result ≡ None }
+    ensures unnamed { All (λ fail. fail.call ≢ call) fails.now → result ≡ None }
 {
     for fail in fails {
         if fail.call == call && fail.after == after {
@@ -62,7 +63,8 @@ impl Foreign {
 /// Adds a row of somebody else where it is for this call, the topics have its partition and there
 /// is memory, and counts it.
 fn add_other(alloc: Global, topics: &mut MemTopics, others: &mut u64, one: &Foreign, call: u64)
-    ensures { OthersCame (log_with topics.old.list.items others.old) (log_with topics.new.list.items others.new) }
+    ensures came { OthersCame (log_with topics.old.list.items others.old) (log_with topics.new.list.items others.new) }
+    ensures unnamed { one.now.call ≢ call → (topics.new.list.items ≡ topics.old.list.items) × (others.new ≡ others.old) }
 {
     if one.call != call || one.partition < 0 || *others == u64::MAX {
         return;
@@ -88,6 +90,7 @@ pub(crate) fn add_others(
 )
     ensures came { OthersCame (log_with topics.old.list.items others.old) (log_with topics.new.list.items others.new) }
     ensures none { list.now ≡ [] → (topics.new.list.items ≡ topics.old.list.items) × (others.new ≡ others.old) }
+    ensures unnamed { All (λ other. other.call ≢ call) list.now → (topics.new.list.items ≡ topics.old.list.items) × (others.new ≡ others.old) }
 {
     for one in list {
         add_other(alloc, topics, others, one, call);

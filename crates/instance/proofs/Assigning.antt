@@ -13,7 +13,8 @@ use Rattle.model.specs.Entry.Act.{Assign}
 use Rattle.model.specs.Entry.Call.{Of}
 use Rattle.model.specs.Texts.{response_of}
 use Rattle.model.specs.Entry.Reply.{Done, Broker, LinkFault, Want}
-use Rattle.model.specs.Fixed.{Fixes, HasPart}
+use Rattle.model.specs.Fixed.{Fixes, HasPart, SameCommits}
+use Rattle.model.specs.Produced.{NoneAdded}
 use Rattle.model.specs.Ends.{EndsIf, as_assigned}
 use Rattle.model.specs.Rules.{IsSet, IsLacking, IsAssigned, lacking}
 use Rattle.model.proofs.Stretches.{keeps_itself}
@@ -27,7 +28,7 @@ use Rattle.rest_codes.specs.declared.response.Reply.{Reply as CodeReply}
 use Rattle.rest_calls.specs.Responses.{response_in}
 use Rattle.instance.specs.Acting.{ActsSo, AreThere, forms}
 use Rattle.instance.specs.Failing.{Says}
-use Rattle.instance.specs.Linking.{ComesOf, FitsCode, GoesOn, refusal_of}
+use Rattle.instance.specs.Linking.{ComesOf, FitsCode, refusal_of}
 use Rattle.instance.specs.Views.{mode_of}
 use Rattle.instance.specs.declared.topics.AssignNo.{AssignNo}
 use Rattle.instance.specs.declared.topics.AssignNo.TheVariants.{NoTopic, NoPartition, Failed}
@@ -38,11 +39,11 @@ use Rattle.instance.proofs.Lacking.{part_there}
 abbrev pub AssignEnds : Key → ℕ → List TopicPart → Consumer → Log → Reply → Log → Consumer → Type 0
 AssignEnds key now ats c a reply b c2 = EndsIf ats now c (Some reply) (Some c2) (IsLacking now ats c a (Some reply) (Some c2) ⊎ IsAssigned key now ats c a (Some reply) b (Some c2))
 
-pub assign_acts : (advertise : List ℕ) (key : Key) (now round : ℕ) (ats : List TopicPart) (tells tells2 plain plain2 : Type 0) (before after : Counts) (c : Consumer) (a : Log) (reply : Reply) (r : CodeReply) (b : Log) (c2 : Consumer)
-    → GoesOn tells tells2 plain plain2 a b → Says reply r → IsCounted before after reply → c.mode ≢ ByTopics
+pub assign_acts : (advertise : List ℕ) (key : Key) (now round : ℕ) (ats : List TopicPart) (tells plain : Type 0) (before after : Counts) (c : Consumer) (a : Log) (reply : Reply) (r : CodeReply) (b : Log) (c2 : Consumer)
+    → (tells → Keeps a b × NoneAdded a b × SameCommits a b) → Says reply r → IsCounted before after reply → c.mode ≢ ByTopics
     → (tells → IsLog a → AssignEnds key now ats c a reply b c2) → (tells → IsLog a → AreThere a c → AreThere b c2) → (plain → tells → IsLog a → IsGood reply)
     → ActsSo advertise key now round (Assign ats) tells plain before after c a [] (Some (response_in r)) b c2
-assign_acts advertise key now round ats tells tells2 plain plain2 before after c a reply r b c2 goes says counted mode ends there good = record {
+assign_acts advertise key now round ats tells plain before after c a reply r b c2 keeps says counted mode ends there good = record {
   reply = Some reply;
   says = said;
   counted = counted;
@@ -54,8 +55,8 @@ assign_acts advertise key now round ats tells tells2 plain plain2 before after c
       same = refl;
       reply = Some reply;
       says = said;
-      acts = (refl, (goes.keeps t).2, inr (mode, ends t is));
-      added = (goes.keeps t).1;
+      acts = (refl, (keeps t).2, inr (mode, ends t is));
+      added = (keeps t).1;
       looks = tt;
     },
     refl,

@@ -90,7 +90,7 @@ have_asked log asks places are have = of_asks (HasPart log) asks places are have
 
 -- ---- the rows at hand
 
-whose_are : (places : List CodePlace) (fetched : List Fetched) → length fetched ≡ length places → map (λ (lot : Lot). lot.place) (lots_of places fetched) ≡ map place_of places
+pub whose_are : (places : List CodePlace) (fetched : List Fetched) → length fetched ≡ length places → map (λ (lot : Lot). lot.place) (lots_of places fetched) ≡ map place_of places
 whose_are [] fetched same = refl
 whose_are (p ∷ ps) [] same = absurd (omega arith)
 whose_are (p ∷ ps) (f ∷ fs) same = ap (λ xs. place_of p ∷ xs) (whose_are ps fs (omega arith))

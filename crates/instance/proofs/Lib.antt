@@ -18,3 +18,4 @@ pub mod Gathering
 pub mod Resetting
 pub mod Setting
 pub mod Looking
+pub mod Handing

@@ -11,33 +11,36 @@ use Rattle.model.proofs.Stretches.{keeps_itself, keeps_on}
 use Rattle.gate_io.specs.Counts.{Rose}
 use Rattle.broker_link.specs.Causes.{Counts}
 use Rattle.broker_link.specs.Replies.{CountsKept, IsCounted}
+use Rattle.broker_link.specs.Stands.{Stand}
 use Rattle.broker_link.specs.declared.link.LinkNo.TheVariants as link
 use Rattle.instance.specs.Linking.{ComesOf, GoesOn, IsCaused, refusal_of}
 use Rattle.instance.specs.declared.topics.AssignNo.{AssignNo}
 use Rattle.instance.specs.declared.topics.AssignNo.TheVariants.{NoTopic, NoPartition, Failed}
 
 -- nothing was asked
-pub goes_nowhere : (tells plain : Type 0) (a : Log) → GoesOn tells tells plain plain a a
-goes_nowhere tells plain a = record {
+pub goes_nowhere : (a : Stand) → GoesOn a a
+goes_nowhere a = record {
   telling = λ t. t;
-  keeps = λ t. (keeps_itself a, omega arith, λ group at. refl);
+  keeps = λ t. (keeps_itself a.log, omega arith, λ group at. refl);
   is_log = λ t is. is;
   plainly = λ p. p;
+  turning = λ t. t;
   alone = λ p. refl;
 }
 
 -- one call after another
-pub goes_on : (t0 t1 t2 p0 p1 p2 : Type 0) (a b c : Log) → GoesOn t0 t1 p0 p1 a b → GoesOn t1 t2 p1 p2 b c → GoesOn t0 t2 p0 p2 a c
-goes_on t0 t1 t2 p0 p1 p2 a b c one two = record {
+pub goes_on : (a b c : Stand) → GoesOn a b → GoesOn b c → GoesOn a c
+goes_on a b c one two = record {
   telling = λ t. two.telling (one.telling t);
-  keeps = λ t. both t (one.keeps t) (two.keeps (one.telling t));
+  keeps = λ t. both a.log b.log c.log (one.keeps t) (two.keeps (one.telling t));
   is_log = λ t is. two.is_log (one.telling t) (one.is_log t is);
   plainly = λ p. two.plainly (one.plainly p);
+  turning = λ t. two.turning (one.turning t);
   alone = λ p. two.alone (one.plainly p) ∙ one.alone p;
 }
   where
-    both : t0 → Keeps a b × NoneAdded a b × SameCommits a b → Keeps b c × NoneAdded b c × SameCommits b c → Keeps a c × NoneAdded a c × SameCommits a c
-    both t x y = (keeps_on a b c x.0 y.0, omega (arith, x.1, y.1), λ group at. y.2 group at ∙ x.2 group at)
+    both : (x y z : Log) → Keeps x y × NoneAdded x y × SameCommits x y → Keeps y z × NoneAdded y z × SameCommits y z → Keeps x z × NoneAdded x z × SameCommits x z
+    both x y z h k = (keeps_on x y z h.0 k.0, omega (arith, h.1, k.1), λ group at. k.2 group at ∙ h.2 group at)
 
 pub counts_kept : (c d e : Counts) → CountsKept c d → CountsKept d e → CountsKept c e
 counts_kept c d e x y = record {

@@ -2,7 +2,7 @@
 use Rattle.std.proofs.Common.{◌≡◌, ℕ, ◌<◌, ◌&&◌, ◌==◌, Bool, true, false, List, [], ◌∷◌, ◌++◌, map, length, refl, ap, sym, subst, ◌∙◌, inl, inr, arith, Option, Some, None, pos}
 use Rattle.std.specs.Prelude.{◌⊎◌, ◌≢◌, IsTrue, option_map}
 use Rattle.std.proofs.lemmas.List.{append-nil, map-append}
-use Rattle.model.specs.Log.{Log, IsLog, TopicPart}
+use Rattle.model.specs.Log.{Log, IsLog, Keeps, TopicPart}
 use Rattle.model.specs.Walk.{Place, Lot, Walked, unwalked, walk, turned}
 use Rattle.model.specs.World.{Key, Format, Consumer, Mode, touched, with_position, with_positions, moved_places}
 use Rattle.model.specs.World.Mode.{ByTopics, Unset, Assigned}
@@ -18,11 +18,13 @@ use Rattle.model.specs.Texts.{Response, response_of}
 use Rattle.model.specs.Noted.{said_of, events_of, EndsInLook}
 use Rattle.model.specs.Causes.{IsRebalanced, IsPumped, has_looked, placed_in, Pumped}
 use Rattle.model.specs.Causes.Pumped.{Unpumped}
-use Rattle.model.specs.Fixed.{HasPart}
+use Rattle.model.specs.Fixed.{HasPart, SameCommits}
+use Rattle.model.specs.Produced.{NoneAdded}
 use Rattle.model.specs.Look.{IsCut_off, IsWalked, LookEnds, Looks, Sends, SetBack, after_events, with_assignment, at_most, is_due, moved, rotation_behind}
 use Rattle.model.proofs.Stretches.{keeps_itself}
 use Rattle.broker_link.specs.Causes.{Counts, ComesOf}
 use Rattle.broker_link.specs.Replies.{CountsKept, IsCounted, IsCountedIf, IsGood, IsGoodIf, link_reply}
+use Rattle.broker_link.specs.Stands.{Stand}
 use Rattle.broker_link.specs.declared.link.LinkNo.{LinkNo}
 use Rattle.broker_link.specs.declared.link.LinkNo.TheVariants.{Fault, Refused, Want}
 use Rattle.instance.specs.declared.event.Event.{Event as CodeEvent}
@@ -55,14 +57,14 @@ pub ends_in_look : (before events : List CodeEvent) (round : ℕ) → events ≡
 ends_in_look before events round is = (map event_of before, ap (map event_of) is ∙ map-append event_of before (CodeLooked round ∷ []))
 
 -- a look's last events: its mark, or none
-data IsMark : List Event → Type 0 where
+pub data IsMark : List Event → Type 0 where
   NoMark : IsMark []
   OneMark : (k : ℕ) → IsMark (Looked k ∷ [])
 
-abbrev with_places : List Place → Consumer → Consumer
+abbrev pub with_places : List Place → Consumer → Consumer
 with_places places c = with_assignment places c.rotation c.unsaved c
 
-after_resets : (news : List Place) (looked : List Event) (c : Consumer) → IsMark looked → after_events (map Reset news ++ looked) c ≡ with_places (with_positions news c.assignment) c
+pub after_resets : (news : List Place) (looked : List Event) (c : Consumer) → IsMark looked → after_events (map Reset news ++ looked) c ≡ with_places (with_positions news c.assignment) c
 after_resets [] looked c NoMark = refl
 after_resets [] looked c (OneMark k) = refl
 after_resets (n ∷ ns) looked c mark = after_resets ns looked (with_places (with_position n c.assignment) c) mark
@@ -105,7 +107,7 @@ moved_touched items moment c = λ i. record { settings = c.settings; mode = c.mo
     turn (Some at) = refl
 
 -- the end of a consumer that was used then is that of the consumer before
-ends_untouched : (moment : ℕ) (turn : Turn) (wait : ℕ) (c : Consumer) (walked : Walked) (looked : List Event) (reply : Option Reply) (c2 : Option Consumer)
+pub ends_untouched : (moment : ℕ) (turn : Turn) (wait : ℕ) (c : Consumer) (walked : Walked) (looked : List Event) (reply : Option Reply) (c2 : Option Consumer)
     → LookEnds moment turn wait (touched moment c) walked looked reply c2 → LookEnds moment turn wait c walked looked reply c2
 ends_untouched moment turn wait c walked looked reply c2 (inl u) = inl (record { item = u.item; taken = u.taken; met = u.met; marks = u.marks; number = u.number; why = u.why; says = u.says; left = u.left })
 ends_untouched moment turn wait c walked looked reply c2 (inr (inl s)) =
@@ -128,7 +130,7 @@ pub record IsBinary (c : Consumer) : Type 0 where
   pub mode : c.mode ≢ ByTopics
 
 is_look : (key : Key) (moment round : ℕ) (timeout bound : Option ℕ) (c : Consumer) (a b : Log) (news : List Place) (looked : List Event) (reply : Option Reply) (c2 : Consumer)
-    → IsBinary c → IsLog a → Rattle.model.specs.Fixed.SameCommits a b → SetBack c.settings.reset a c.assignment news b
+    → IsBinary c → IsLog a → SameCommits a b → SetBack c.settings.reset a c.assignment news b
     → IsCut_off moment (Sends c) (after_events (map Reset news ++ looked) c) looked reply (Some c2)
     ⊎ IsWalked moment (turn_of round) (at_most c.settings.timeout_ms timeout) (at_most 4194304 bound) a b (after_events (map Reset news ++ looked) c) looked reply (Some c2)
     → Looks key moment (turn_of round) [] timeout bound c a (map Reset news ++ looked) reply b (Some c2)
@@ -154,9 +156,20 @@ is_look key moment round timeout bound c a b news looked reply c2 one log commit
       },
     )
 
+-- what a look says of the calls that it made
+pub record Passed (tells : Type 0) (a b : Log) (before after : Counts) : Type 0 where
+  pub keeps : tells → Keeps a b
+  pub added : tells → NoneAdded a b
+  pub commits : tells → SameCommits a b
+  pub is_log : tells → IsLog a → IsLog b
+  pub counts : CountsKept before after
+
+pub passed : (s t : Stand) → Passes s t → Passed s.tells s.log t.log s.counts t.counts
+passed s t is = record { keeps = is.keeps; added = is.added; commits = is.commits; is_log = is.is_log; counts = is.counts }
+
 -- what the call owes, by its parts
-acts_so : (advertise : List ℕ) (key : Key) (now round : ℕ) (timeout bound : Option ℕ) (tells t2 plain p2 : Type 0) (before after : Counts) (c : Consumer) (a : Log) (events : List CodeEvent) (said : Option Response) (b : Log) (c2 : Consumer)
-    → (news : List Place) (looked : List Event) (reply : Option Reply) → IsMark looked → IsBinary c → Passes tells t2 plain p2 a b before after
+acts_so : (advertise : List ℕ) (key : Key) (now round : ℕ) (timeout bound : Option ℕ) (tells plain : Type 0) (before after : Counts) (c : Consumer) (a : Log) (events : List CodeEvent) (said : Option Response) (b : Log) (c2 : Consumer)
+    → (news : List Place) (looked : List Event) (reply : Option Reply) → IsMark looked → IsBinary c → Passed tells a b before after
     → map own_of events ≡ map Reset news ++ looked
     → said ≡ said_of advertise forms (Some (Of key (Records [] timeout bound))) reply → IsCountedIf before after reply
     → (tells → IsLog a → SetBack c.settings.reset a c.assignment news b)
@@ -165,7 +178,7 @@ acts_so : (advertise : List ℕ) (key : Key) (now round : ℕ) (timeout bound : 
     → map (λ (p : Place). p.at) c2.assignment ≡ map (λ (p : Place). p.at) c.assignment
     → (plain → tells → IsLog a → AreThere a c → IsGoodIf reply)
     → ActsSo advertise key now round (Records [] timeout bound) tells plain before after c a (map event_of events) said b c2
-acts_so advertise key now round timeout bound tells t2 plain p2 before after c a events said b c2 news looked reply mark one passes own says counted set ends ats good = record {
+acts_so advertise key now round timeout bound tells plain before after c a events said b c2 news looked reply mark one passes own says counted set ends ats good = record {
   reply = reply;
   says = says;
   counted = counted;
@@ -188,30 +201,30 @@ acts_so advertise key now round timeout bound tells t2 plain p2 before after c a
 }
 
 -- the consumer after the positions were set back, once it was used
-abbrev Mid : ℕ → Consumer → List Place → Consumer → Type 0
+abbrev pub Mid : ℕ → Consumer → List Place → Consumer → Type 0
 Mid now c news cm = cm ≡ touched now (with_places (with_positions news c.assignment) c)
 
 -- something ended the look before its walk
-pub acts_cut : (advertise : List ℕ) (key : Key) (now round : ℕ) (timeout bound : Option ℕ) (tells t2 plain p2 : Type 0) (before after : Counts) (c : Consumer) (a : Log) (events : List CodeEvent) (said : Option Response) (b : Log) (c2 : Consumer)
-    → (why : Reply) (news : List Place) → IsBinary c → Passes tells t2 plain p2 a b before after
+pub acts_cut : (advertise : List ℕ) (key : Key) (now round : ℕ) (timeout bound : Option ℕ) (tells plain : Type 0) (before after : Counts) (c : Consumer) (a : Log) (events : List CodeEvent) (said : Option Response) (b : Log) (c2 : Consumer)
+    → (why : Reply) (news : List Place) → IsBinary c → Passed tells a b before after
     → map own_of events ≡ map Reset news → (tells → IsLog a → SetBack c.settings.reset a c.assignment news b) → Mid now c news c2
     → IsLinks why → ((why ≡ NoMemory) ⊎ Sends c)
     → said ≡ Some (response_of advertise forms (Of key (Records [] timeout bound)) why) → IsCounted before after why
     → (plain → tells → IsLog a → AreThere a c → IsGood why)
     → ActsSo advertise key now round (Records [] timeout bound) tells plain before after c a (map event_of events) said b c2
-acts_cut advertise key now round timeout bound tells t2 plain p2 before after c a events said b c2 why news one passes told set mid links cause says counted good =
-    acts_so advertise key now round timeout bound tells t2 plain p2 before after c a events said b c2 news [] (Some why) NoMark one passes (told ∙ sym (append-nil (map Reset news))) says counted set
+acts_cut advertise key now round timeout bound tells plain before after c a events said b c2 why news one passes told set mid links cause says counted good =
+    acts_so advertise key now round timeout bound tells plain before after c a events said b c2 news [] (Some why) NoMark one passes (told ∙ sym (append-nil (map Reset news))) says counted set
     (λ t log. inl (record { why = why; links = links; cause = cause; marks = refl; says = refl; left = ap (λ x. Some x) (mid ∙ ap (touched now) (sym (after_resets news [] c NoMark))) }))
     (ap (λ (x : Consumer). map (λ (p : Place). p.at) x.assignment) mid ∙ ats_set_all news c.assignment) good
 
 -- the walk ended the look
-pub acts_walked : (advertise : List ℕ) (key : Key) (now round : ℕ) (timeout bound : Option ℕ) (tells t2 plain p2 : Type 0) (before after : Counts) (c : Consumer) (a : Log) (events all : List CodeEvent) (said : Option Response) (b : Log) (cm c2 : Consumer) (lots : List Lot)
-    → IsBinary c → Passes tells t2 plain p2 a b before after
+pub acts_walked : (advertise : List ℕ) (key : Key) (now round : ℕ) (timeout bound : Option ℕ) (tells plain : Type 0) (before after : Counts) (c : Consumer) (a : Log) (events all : List CodeEvent) (said : Option Response) (b : Log) (cm c2 : Consumer) (lots : List Lot)
+    → IsBinary c → Passed tells a b before after
     → (sets : SetsBack tells c.settings.reset a c.assignment events b cm.assignment) → Mid now c sets.news cm
     → all ≡ events ++ CodeLooked round ∷ [] → (tells → IsLog a → IsHand b cm.assignment lots)
     → IsEnded round (at_most c.settings.timeout_ms timeout) (at_most 4194304 bound) cm lots said c2
     → ActsSo advertise key now round (Records [] timeout bound) tells plain before after c a (map event_of all) said b c2
-acts_walked advertise key now round timeout bound tells t2 plain p2 before after c a events all said b cm c2 lots one passes sets mid more hand ended =
+acts_walked advertise key now round timeout bound tells plain before after c a events all said b cm c2 lots one passes sets mid more hand ended =
     let looked : List Event = Looked round ∷ [] in
     let wait : ℕ = at_most c.settings.timeout_ms timeout in
     let most : ℕ = at_most 4194304 bound in
@@ -222,7 +235,7 @@ acts_walked advertise key now round timeout bound tells t2 plain p2 before after
     let ends : LookEnds now (turn_of round) wait (touched now here) walked looked ended.reply (Some c2) =
     subst (λ (x : Consumer). LookEnds x.last_use (turn_of round) wait x (walk (rule_of most) unwalked (turned x.rotation lots)) looked ended.reply (Some c2)) mid ended.ends in
     let ats : map (λ (p : Place). p.at) c2.assignment ≡ map (λ (p : Place). p.at) c.assignment = ends_ats now (turn_of round) wait (touched now here) walked looked ended.reply c2 ends ∙ ats_set_all sets.news c.assignment in
-    acts_so advertise key now round timeout bound tells t2 plain p2 before after c a all said b c2 sets.news looked ended.reply (OneMark round) one passes own (ended.says advertise (Of key (Records [] timeout bound))) (ended.counted before after passes.counts) (λ t log. sets.set t log)
+    acts_so advertise key now round timeout bound tells plain before after c a all said b c2 sets.news looked ended.reply (OneMark round) one passes own (ended.says advertise (Of key (Records [] timeout bound))) (ended.counted before after passes.counts) (λ t log. sets.set t log)
     (λ t log. inr (subst (λ (x : Consumer). IsWalked now (turn_of round) wait most a b x looked ended.reply (Some c2)) (sym after_is) (record {
       lots = lots;
       hand = at_hand a b here.assignment lots (0 < length looked) (passes.is_log t log) (passes.keeps t) (subst (λ (ps : List Place). IsHand b ps lots) sets.after (hand t log));
@@ -301,29 +314,29 @@ pub is_binary : (c : CodeConsumer) → IsBinary (consumer_of c)
 is_binary c = record { binary = refl; off = refl; mode = not_by_topics (map place_of c.assignment.items) }
 
 -- a look that came to its walk
-pub acts_over : (advertise : List ℕ) (key : Key) (now round : ℕ) (timeout bound : Option ℕ) (tells t2 plain p2 : Type 0) (before after : Counts) (c : Consumer) (a : Log) (events : List CodeEvent) (out : Outcome) (b : Log) (cm c2 : Consumer) (lots : List Lot) (wait most : ℕ)
-    → IsBinary c → Passes tells t2 plain p2 a b before after
+pub acts_over : (advertise : List ℕ) (key : Key) (now round : ℕ) (timeout bound : Option ℕ) (tells plain : Type 0) (before after : Counts) (c : Consumer) (a : Log) (events : List CodeEvent) (out : Outcome) (b : Log) (cm c2 : Consumer) (lots : List Lot) (wait most : ℕ)
+    → IsBinary c → Passed tells a b before after
     → (sets : SetsBack tells c.settings.reset a c.assignment events b cm.assignment) → Mid now c sets.news cm
     → wait ≡ at_most c.settings.timeout_ms timeout → most ≡ at_most 4194304 bound → (tells → IsLog a → IsHand b cm.assignment lots)
     → IsOver round wait most cm lots events out c2
     → ActsSo advertise key now round (Records [] timeout bound) tells plain before after c a (events_in out) (said_in out) b c2
-acts_over advertise key now round timeout bound tells t2 plain p2 before after c a events out b cm c2 lots wait most one passes sets mid wait_is most_is hand (inl w) =
-    acts_cut advertise key now round timeout bound tells t2 plain p2 before after c a out.events (said_in out) b c2 NoMemory sets.news one passes
+acts_over advertise key now round timeout bound tells plain before after c a events out b cm c2 lots wait most one passes sets mid wait_is most_is hand (inl w) =
+    acts_cut advertise key now round timeout bound tells plain before after c a out.events (said_in out) b c2 NoMemory sets.news one passes
     (ap (map own_of) w.1 ∙ sets.told) (λ t log. sets.set t log) (w.2 ∙ mid) tt (inl refl) (ap (option_map response_in) w.0) (want_counted before after passes.counts) (λ plain t log there. tt)
-acts_over advertise key now round timeout bound tells t2 plain p2 before after c a events out b cm c2 lots wait most one passes sets mid wait_is most_is hand (inr w) =
-    acts_walked advertise key now round timeout bound tells t2 plain p2 before after c a events out.events (said_in out) b cm c2 lots one passes sets mid w.1 hand
+acts_over advertise key now round timeout bound tells plain before after c a events out b cm c2 lots wait most one passes sets mid wait_is most_is hand (inr w) =
+    acts_walked advertise key now round timeout bound tells plain before after c a events out.events (said_in out) b cm c2 lots one passes sets mid w.1 hand
     (subst (λ n. IsEnded round n (at_most 4194304 bound) cm lots (said_in out) c2) wait_is (subst (λ n. IsEnded round wait n cm lots (said_in out) c2) most_is w.0))
 
 -- a look that a failure of the link ended
-pub acts_failed : (advertise : List ℕ) (key : Key) (now round : ℕ) (timeout bound : Option ℕ) (tells t2 plain p2 : Type 0) (before after : Counts) (c : Consumer) (a : Log) (events : List CodeEvent) (r : CodeReply) (b : Log) (c2 : Consumer) (e : LinkNo)
-    → IsBinary c → Passes tells t2 plain p2 a b before after
+pub acts_failed : (advertise : List ℕ) (key : Key) (now round : ℕ) (timeout bound : Option ℕ) (tells plain : Type 0) (before after : Counts) (c : Consumer) (a : Log) (events : List CodeEvent) (r : CodeReply) (b : Log) (c2 : Consumer) (e : LinkNo)
+    → IsBinary c → Passed tells a b before after
     → (sets : SetsBack tells c.settings.reset a c.assignment events b c2.assignment) → Mid now c sets.news c2
     → 0 < length c.assignment → ComesOf before after e → (plain → tells → AreThere a c → e ≡ Want) → SaysOrWant (link_reply e) r
     → ActsSo advertise key now round (Records [] timeout bound) tells plain before after c a (map event_of events) (Some (response_in r)) b c2
-acts_failed advertise key now round timeout bound tells t2 plain p2 before after c a events r b c2 e one passes sets mid sent comes good (inl says) =
-    acts_cut advertise key now round timeout bound tells t2 plain p2 before after c a events (Some (response_in r)) b c2 (link_reply e) sets.news one passes sets.told (λ t log. sets.set t log) mid
+acts_failed advertise key now round timeout bound tells plain before after c a events r b c2 e one passes sets mid sent comes good (inl says) =
+    acts_cut advertise key now round timeout bound tells plain before after c a events (Some (response_in r)) b c2 (link_reply e) sets.news one passes sets.told (λ t log. sets.set t log) mid
     (links_of before after e comes) (inr (inr (λ none. absurd (omega (arith, sent, ap length none))))) (ap (λ x. Some x) (says advertise forms (Of key (Records [] timeout bound)))) (failure_counted before after e passes.counts comes)
     (λ p t log there. good_want e (good p t there))
-acts_failed advertise key now round timeout bound tells t2 plain p2 before after c a events r b c2 e one passes sets mid sent comes good (inr want) =
-    acts_cut advertise key now round timeout bound tells t2 plain p2 before after c a events (Some (response_in r)) b c2 NoMemory sets.news one passes sets.told (λ t log. sets.set t log) mid
+acts_failed advertise key now round timeout bound tells plain before after c a events r b c2 e one passes sets mid sent comes good (inr want) =
+    acts_cut advertise key now round timeout bound tells plain before after c a events (Some (response_in r)) b c2 NoMemory sets.news one passes sets.told (λ t log. sets.set t log) mid
     tt (inl refl) (ap (λ x. Some (response_in x)) want) (want_counted before after passes.counts) (λ p t log there. tt)

@@ -13,3 +13,4 @@ pub mod Items
 pub mod Ending
 pub mod Passing
 pub mod Gathering
+pub mod Handed

@@ -1,6 +1,6 @@
 -- What calls of a link leave as it was, whatever they answer, and why an Assign isn't done (Confluent REST Proxy API v2, consumers).
 use Rattle.std.specs.Prelude.{ℕ, ◌≡◌, ⊤, Option, Some, None, Result, Ok, Err, IfErr}
-use Rattle.model.specs.Log.{Log, Keeps, IsLog}
+use Rattle.model.specs.Log.{Keeps, IsLog}
 use Rattle.model.specs.Fixed.{SameCommits}
 use Rattle.model.specs.Produced.{NoneAdded}
 use Rattle.model.specs.Entry.{Reply}
@@ -8,16 +8,18 @@ use Rattle.model.specs.Entry.Reply.{Refused}
 use Rattle.broker_link.specs.Causes as causes
 use Rattle.broker_link.specs.Causes.{Counts}
 use Rattle.broker_link.specs.Replies.{CountsKept, link_reply}
+use Rattle.broker_link.specs.Stands.{Stand}
 use Rattle.instance.specs.declared.topics.AssignNo.{AssignNo}
 use Rattle.instance.specs.declared.topics.AssignNo.TheVariants.{NoTopic, NoPartition, Failed}
 
 -- The link goes on telling and being plain as it did; its log is kept, with nothing committed and no row but those of others.
-pub record GoesOn (tells tells2 plain plain2 : Type 0) (a b : Log) : Type 0 where
-  pub telling : tells → tells2
-  pub keeps : tells → Keeps a b × NoneAdded a b × SameCommits a b
-  pub is_log : tells → IsLog a → IsLog b
-  pub plainly : plain → plain2
-  pub alone : plain → b.others ≡ a.others
+pub record GoesOn (a b : Stand) : Type 0 where
+  pub telling : a.tells → b.tells
+  pub keeps : a.tells → Keeps a.log b.log × NoneAdded a.log b.log × SameCommits a.log b.log
+  pub is_log : a.tells → IsLog a.log → IsLog b.log
+  pub plainly : a.plain → b.plain
+  pub turning : a.in_turn → b.in_turn
+  pub alone : a.plain → (let l = b.log in l.others) ≡ (let l = a.log in l.others)
 
 -- the reply to an Assign that isn't done
 abbrev pub refusal_of : AssignNo → Reply

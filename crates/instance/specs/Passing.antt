@@ -1,18 +1,19 @@
 -- What one or more calls of a link leave that store and commit nothing.
 use Rattle.std.specs.Prelude.{◌≡◌}
-use Rattle.model.specs.Log.{Log, Keeps, IsLog}
+use Rattle.model.specs.Log.{Keeps, IsLog}
 use Rattle.model.specs.Fixed.{SameCommits}
 use Rattle.model.specs.Produced.{NoneAdded}
-use Rattle.broker_link.specs.Causes.{Counts}
 use Rattle.broker_link.specs.Replies.{CountsKept}
+use Rattle.broker_link.specs.Stands.{Stand}
 
 -- The link tells as before, a later log keeps the earlier one, and no count falls.
-pub record Passes (tells tells2 plain plain2 : Type 0) (a b : Log) (c d : Counts) : Type 0 where
-  pub telling : tells → tells2
-  pub keeps : tells → Keeps a b
-  pub added : tells → NoneAdded a b
-  pub commits : tells → SameCommits a b
-  pub is_log : tells → IsLog a → IsLog b
-  pub plainly : plain → plain2
-  pub alone : plain → b.others ≡ a.others
-  pub counts : CountsKept c d
+pub record Passes (a b : Stand) : Type 0 where
+  pub telling : a.tells → b.tells
+  pub keeps : a.tells → Keeps a.log b.log
+  pub added : a.tells → NoneAdded a.log b.log
+  pub commits : a.tells → SameCommits a.log b.log
+  pub is_log : a.tells → IsLog a.log → IsLog b.log
+  pub plainly : a.plain → b.plain
+  pub turning : a.in_turn → b.in_turn
+  pub alone : a.plain → (let l = b.log in l.others) ≡ (let l = a.log in l.others)
+  pub counts : CountsKept a.counts b.counts

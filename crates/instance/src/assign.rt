@@ -32,7 +32,7 @@ fn places_for<L: Link>(
     kept: &[Place],
     parts: &[TopicPart],
 ) -> Result<Vec<Place>, AssignNo>
-    ensures goes { GoesOn (L.stand link.old).tells (L.stand link.new).tells (L.stand link.old).plain (L.stand link.new).plain (L.stand link.old).log (L.stand link.new).log }
+    ensures goes { GoesOn (L.stand link.old) (L.stand link.new) }
     ensures caused { IsCaused (L.stand link.old).counts (L.stand link.new).counts result }
     ensures code { (L.stand link.old).tells → IsLog (L.stand link.old).log → FitsCode (lacking (L.stand link.old).log (map at_of parts.now) (map at_of parts.now)) result }
     ensures set { IfOk result (λ places. IsSet (map at_of parts.now) (map place_of places.items)) }
@@ -68,7 +68,7 @@ pub(crate) fn assign<L: Link>(
 ) -> Reply
     requires sound { IsSound consumer.old }
     ensures sound { IsSound consumer.new }
-    ensures goes { GoesOn (L.stand link.old).tells (L.stand link.new).tells (L.stand link.old).plain (L.stand link.new).plain (L.stand link.old).log (L.stand link.new).log }
+    ensures goes { GoesOn (L.stand link.old) (L.stand link.new) }
     ensures kept { CountsKept (L.stand link.old).counts (L.stand link.new).counts }
     ensures acts { (advertise instance : List ℕ) (round : ℕ) → ActsSo advertise (key_in group.now instance) now round (Assign (map at_of parts.now)) (L.stand link.old).tells (L.stand link.old).plain (L.stand link.old).counts (L.stand link.new).counts (consumer_of consumer.old) (L.stand link.old).log [] (Some (response_in result)) (L.stand link.new).log (consumer_of consumer.new) }
 {

@@ -92,11 +92,11 @@ pub(crate) fn fetch_from<L: Link>(
     requires first { first ≤ length places.now }
     requires few { most < 2 ^ 31 }
     requires order { IsInOrder (map place_of places.now) }
-    ensures passes { Passes (L.stand link.old).tells (L.stand link.new).tells (L.stand link.old).plain (L.stand link.new).plain (L.stand link.old).log (L.stand link.new).log (L.stand link.old).counts (L.stand link.new).counts }
+    ensures passes { Passes (L.stand link.old) (L.stand link.new) }
     ensures same { IfOk result (λ fetched. length fetched ≡ length places.now) }
     ensures offsets { IfOk result (All HasOffsets) }
     ensures got { (L.stand link.old).tells → IfOk result (GotFrom (L.stand link.new).log (map place_of places.now)) }
-    ensures given { (L.stand link.old).plain → (L.stand link.old).tells → IfOk result (λ fetched. AreGiven most first (L.stand link.new).log (map place_of places.now) (map rows_in fetched)) }
+    ensures given { (L.stand link.old).in_turn → (L.stand link.old).tells → IfOk result (λ fetched. AreGiven most first (L.stand link.new).log (map place_of places.now) (map rows_in fetched)) }
     ensures good { (L.stand link.old).plain → (L.stand link.old).tells → HaveAll (L.stand link.old).log (map place_of places.now) → IfErr result (λ e. e ≡ Want) }
     ensures cause { IfErr result (ComesOf (L.stand link.old).counts (L.stand link.new).counts) }
 {

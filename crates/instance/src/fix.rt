@@ -25,7 +25,7 @@ fn fix_one<L: Link>(
     known: i64,
     reset: Edge,
 ) -> Result<i64, AssignNo>
-    ensures goes { GoesOn (L.stand link.old).tells (L.stand link.new).tells (L.stand link.old).plain (L.stand link.new).plain (L.stand link.old).log (L.stand link.new).log }
+    ensures goes { GoesOn (L.stand link.old) (L.stand link.new) }
     ensures caused { IsCaused (L.stand link.old).counts (L.stand link.new).counts result }
     ensures failed { IfErr result IsFailed }
     ensures low { IfOk result (λ offset. pos 0 ≤ℤ offset) }
@@ -60,7 +60,7 @@ fn fix_next<L: Link>(
     known: i64,
     reset: Edge,
 ) -> Result<Place, AssignNo>
-    ensures goes { GoesOn (L.stand link.old).tells (L.stand link.new).tells (L.stand link.old).plain (L.stand link.new).plain (L.stand link.old).log (L.stand link.new).log }
+    ensures goes { GoesOn (L.stand link.old) (L.stand link.new) }
     ensures caused { IsCaused (L.stand link.old).counts (L.stand link.new).counts result }
     ensures failed { IfErr result IsFailed }
     ensures whose { IfOk result (λ place. at_in place ≡ at_of part.now) }
@@ -89,7 +89,7 @@ fn fix_all<L: Link>(
     reset: Edge,
 ) -> Result<Vec<Place>, AssignNo>
     requires same { length known.now ≡ length parts.now }
-    ensures goes { GoesOn (L.stand link.old).tells (L.stand link.new).tells (L.stand link.old).plain (L.stand link.new).plain (L.stand link.old).log (L.stand link.new).log }
+    ensures goes { GoesOn (L.stand link.old) (L.stand link.new) }
     ensures caused { IsCaused (L.stand link.old).counts (L.stand link.new).counts result }
     ensures failed { IfErr result IsFailed }
     ensures whose { IfOk result (λ places. map at_in places.items ≡ map at_of parts.now) }
@@ -113,7 +113,7 @@ fn committed<L: Link>(
     news: &[TopicPart],
 ) -> Result<Items<i64>, AssignNo>
     requires { AreRising (map at_of news.now) }
-    ensures goes { GoesOn (L.stand link.old).tells (L.stand link.new).tells (L.stand link.old).plain (L.stand link.new).plain (L.stand link.old).log (L.stand link.new).log }
+    ensures goes { GoesOn (L.stand link.old) (L.stand link.new) }
     ensures caused { IsCaused (L.stand link.old).counts (L.stand link.new).counts result }
     ensures failed { IfErr result IsFailed }
     ensures count { IfOk result (λ offsets. length offsets ≡ length news.now) }
@@ -138,7 +138,7 @@ pub(crate) fn fix<L: Link>(
     parts: &[TopicPart],
 ) -> Result<Vec<Place>, AssignNo>
     requires { AreRising (map at_of parts.now) }
-    ensures goes { GoesOn (L.stand link.old).tells (L.stand link.new).tells (L.stand link.old).plain (L.stand link.new).plain (L.stand link.old).log (L.stand link.new).log }
+    ensures goes { GoesOn (L.stand link.old) (L.stand link.new) }
     ensures caused { IsCaused (L.stand link.old).counts (L.stand link.new).counts result }
     ensures failed { IfErr result IsFailed }
     ensures whose { IfOk result (λ places. map at_in places.items ≡ map at_of parts.now) }

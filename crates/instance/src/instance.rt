@@ -1,13 +1,15 @@
-ghost use Rattle.std.specs.Prelude.{◌≡◌, ◌≢◌, ◌<◌, ◌*◌, ◌^◌, ℕ, List, [], IfOk, None, Some, map};
+ghost use Rattle.std.specs.Prelude.{◌≡◌, ◌≢◌, ◌<◌, ◌*◌, ◌^◌, ℕ, List, [], IfOk, Option, None, Some, map};
 ghost use Rattle.broker_link.specs.Stands.{Goes};
 ghost use Rattle.model.specs.World.{IsConsumer, fresh, is_key};
 ghost use Rattle.model.specs.World.Mode.{ByTopics};
 ghost use Rattle.model.specs.Entry.{Act};
+ghost use Rattle.model.specs.Entry.Act.{Records};
 ghost use Rattle.model.specs.Entry.Call.{Of};
 ghost use Rattle.model.specs.Fixed.{SameCommits};
 ghost use Rattle.model.specs.Noted.{EndsInLook};
 ghost use Rattle.rest_calls.specs.Views.{asked_of, key_in, settings_of};
 ghost use Rattle.instance.specs.Acting.{ActsSo};
+ghost use Rattle.instance.specs.Handed.{LooksAtGiven};
 ghost use Rattle.rest_calls.specs.Responses.{response_in};
 ghost use Rattle.instance.specs.Telling.{TellsSo};
 ghost use Rattle.instance.specs.Views.{at_in, events_in, said_in};
@@ -126,6 +128,8 @@ impl Instance {
         requires whose { (act : Act) × (asked_of call.now ≡ Of self.old.key act) }
         ensures acts { (advertise : List ℕ) (act : Act) → asked_of call.now ≡ Of self.old.key act
             → ActsSo advertise self.old.key now round act (L.stand link.old).tells (L.stand link.old).plain (L.stand link.old).counts (L.stand link.new).counts self.old.consumer (L.stand link.old).log (events_in result) (said_in result) (L.stand link.new).log self.new.consumer }
+        ensures handed { (timeout bound : Option ℕ) → asked_of call.now ≡ Of self.old.key (Records [] timeout bound)
+            → (L.stand link.old).in_turn → (L.stand link.old).tells → LooksAtGiven now round timeout bound self.old.consumer (events_in result) (said_in result) (L.stand link.new).log self.new.consumer }
         ensures key { self.new.key ≡ self.old.key }
         ensures unsubscribed { self.old.consumer.mode ≢ ByTopics }
         ensures waits { result.reply ≡ None → 10 * round < 2 ^ 32 }

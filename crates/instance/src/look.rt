@@ -18,6 +18,7 @@ ghost use Rattle.rest_calls.specs.Responses.{response_in};
 ghost use Rattle.instance.specs.declared.event.Event.TheVariants.{Looked};
 ghost use Rattle.instance.specs.Acting.{ActsSo, forms};
 ghost use Rattle.instance.specs.Ending.{IsEnded, IsKept, IsOver};
+ghost use Rattle.instance.specs.Handed.{LooksAtGiven};
 ghost use Rattle.instance.specs.Lots.{HasOffsets, IsPick, lots_of, rule_of, seen};
 ghost use Rattle.instance.specs.Views.{IsSound, consumer_of, events_in, place_of, said_in};
 
@@ -50,13 +51,13 @@ fn gather<L: Link>(
     requires first { first ≤ length places.old }
     requires few { most < 2 ^ 31 }
     requires none { events.old ≡ [] }
-    ensures passes { Passes (L.stand link.old).tells (L.stand link.new).tells (L.stand link.old).plain (L.stand link.new).plain (L.stand link.old).log (L.stand link.new).log (L.stand link.old).counts (L.stand link.new).counts }
+    ensures passes { Passes (L.stand link.old) (L.stand link.new) }
     ensures set { SetsBack (L.stand link.old).tells (edge_view edge) (L.stand link.old).log (map place_of places.old) events.new (L.stand link.new).log (map place_of places.new) }
     ensures kept { IsLow (map place_of places.old) → IsLow (map place_of places.new) }
     ensures same { IfOk result (λ fetched. length fetched ≡ length places.new) }
     ensures offsets { IfOk result (All HasOffsets) }
     ensures hand { (L.stand link.old).tells → IsLog (L.stand link.old).log → IfOk result (λ fetched. IsHand (L.stand link.new).log (map place_of places.new) (lots_of places.new fetched)) }
-    ensures given { (L.stand link.old).plain → (L.stand link.old).tells → IfOk result (λ fetched. AreGiven most first (L.stand link.new).log (map place_of places.new) (map rows_in fetched)) }
+    ensures given { (L.stand link.old).in_turn → (L.stand link.old).tells → IfOk result (λ fetched. AreGiven most first (L.stand link.new).log (map place_of places.new) (map rows_in fetched)) }
     ensures sent { OnErr result (0 < length places.old) }
     ensures good { (L.stand link.old).plain → (L.stand link.old).tells → HaveAll (L.stand link.old).log (map place_of places.old) → IfErr result (λ e. e ≡ Want) }
     ensures cause { IfErr result (ComesOf (L.stand link.old).counts (L.stand link.new).counts) }
@@ -189,14 +190,14 @@ fn gather_for<L: Link>(
 ) -> Result<Items<Fetched>, LinkNo>
     requires sound { IsSound consumer.old }
     requires none { events.old ≡ [] }
-    ensures passes { Passes (L.stand link.old).tells (L.stand link.new).tells (L.stand link.old).plain (L.stand link.new).plain (L.stand link.old).log (L.stand link.new).log (L.stand link.old).counts (L.stand link.new).counts }
+    ensures passes { Passes (L.stand link.old) (L.stand link.new) }
     ensures set { SetsBack (L.stand link.old).tells (edge_view consumer.old.settings.reset) (L.stand link.old).log (map place_of consumer.old.assignment.items) events.new (L.stand link.new).log (map place_of consumer.new.assignment.items) }
     ensures kept { IsKept consumer.old consumer.new }
     ensures sound { IsSound consumer.new }
     ensures same { IfOk result (λ fetched. length fetched ≡ length consumer.new.assignment.items) }
     ensures offsets { IfOk result (All HasOffsets) }
     ensures hand { (L.stand link.old).tells → IsLog (L.stand link.old).log → IfOk result (λ fetched. IsHand (L.stand link.new).log (map place_of consumer.new.assignment.items) (lots_of consumer.new.assignment.items fetched)) }
-    ensures given { (L.stand link.old).plain → (L.stand link.old).tells → IfOk result (λ fetched. AreGiven (min (2 * bound) 1048576) consumer.old.rotation (L.stand link.new).log (map place_of consumer.new.assignment.items) (map rows_in fetched)) }
+    ensures given { (L.stand link.old).in_turn → (L.stand link.old).tells → IfOk result (λ fetched. AreGiven (min (2 * bound) 1048576) consumer.old.rotation (L.stand link.new).log (map place_of consumer.new.assignment.items) (map rows_in fetched)) }
     ensures sent { OnErr result (0 < length consumer.old.assignment.items) }
     ensures good { (L.stand link.old).plain → (L.stand link.old).tells → HaveAll (L.stand link.old).log (map place_of consumer.old.assignment.items) → IfErr result (λ e. e ≡ Want) }
     ensures cause { IfErr result (ComesOf (L.stand link.old).counts (L.stand link.new).counts) }
@@ -240,6 +241,7 @@ pub(crate) fn look<L: Link>(
     requires sound { IsSound consumer.old }
     ensures sound { IsSound consumer.new }
     ensures acts { (advertise : List ℕ) (key : Key) → ActsSo advertise key now round (Records [] timeout max_bytes) (L.stand link.old).tells (L.stand link.old).plain (L.stand link.old).counts (L.stand link.new).counts (consumer_of consumer.old) (L.stand link.old).log (events_in result) (said_in result) (L.stand link.new).log (consumer_of consumer.new) }
+    ensures handed { (L.stand link.old).in_turn → (L.stand link.old).tells → LooksAtGiven now round timeout max_bytes (consumer_of consumer.old) (events_in result) (said_in result) (L.stand link.new).log (consumer_of consumer.new) }
     ensures waits { result.reply ≡ None → 10 * round < 2 ^ 32 }
     ensures looks { result.reply ≡ None → EndsInLook (events_in result) round }
 

@@ -18,7 +18,7 @@ use gate_io::{Items, Text};
 use std::alloc::{AllocError, Global};
 
 fn edge_at<L: Link>(alloc: Global, link: &mut L, place: &Place, edge: Edge) -> Result<i64, LinkNo>
-    ensures passes { Passes (L.stand link.old).tells (L.stand link.new).tells (L.stand link.old).plain (L.stand link.new).plain (L.stand link.old).log (L.stand link.new).log (L.stand link.old).counts (L.stand link.new).counts }
+    ensures passes { Passes (L.stand link.old) (L.stand link.new) }
     ensures low { IfOk result (λ offset. pos 0 ≤ℤ offset) }
     ensures told { (L.stand link.old).tells → IfOk result (IsEdge (L.stand link.new).log (at_in place.now) (edge_view edge)) }
     ensures good { (L.stand link.old).plain → (L.stand link.old).tells → HasPart (L.stand link.old).log (at_in place.now) → IfErr result (λ e. e ≡ Want) }
@@ -35,7 +35,7 @@ fn tell_one<L: Link>(
     fetched: &Fetched,
     edge: Edge,
 ) -> Result<Option<i64>, LinkNo>
-    ensures passes { Passes (L.stand link.old).tells (L.stand link.new).tells (L.stand link.old).plain (L.stand link.new).plain (L.stand link.old).log (L.stand link.new).log (L.stand link.old).counts (L.stand link.new).counts }
+    ensures passes { Passes (L.stand link.old) (L.stand link.new) }
     ensures same { IfOk result (λ told. is_some told ≡ fetched.now.out_of_range) }
     ensures low { IfOk result IsLowIf }
     ensures told { (L.stand link.old).tells → IfOk result (IsEdgeIf (L.stand link.new).log (at_in place.now) (edge_view edge)) }
@@ -60,7 +60,7 @@ fn tell_edges<L: Link>(
     edge: Edge,
 ) -> Result<Items<Option<i64>>, LinkNo>
     requires same { length fetched.now ≡ length places.now }
-    ensures passes { Passes (L.stand link.old).tells (L.stand link.new).tells (L.stand link.old).plain (L.stand link.new).plain (L.stand link.old).log (L.stand link.new).log (L.stand link.old).counts (L.stand link.new).counts }
+    ensures passes { Passes (L.stand link.old) (L.stand link.new) }
     ensures same { IfOk result (λ told. length told ≡ length places.now) }
     ensures are { IfOk result (λ told. AreTold fetched.now told) }
     ensures low { IfOk result (λ told. All IsLowIf told) }
@@ -147,7 +147,7 @@ pub(crate) fn set_back<L: Link>(
     edge: Edge,
 ) -> Result<Items<Event>, LinkNo>
     requires same { length fetched.now ≡ length places.old }
-    ensures passes { Passes (L.stand link.old).tells (L.stand link.new).tells (L.stand link.old).plain (L.stand link.new).plain (L.stand link.old).log (L.stand link.new).log (L.stand link.old).counts (L.stand link.new).counts }
+    ensures passes { Passes (L.stand link.old) (L.stand link.new) }
     ensures set { IfOk result (λ events. AreSet (L.stand link.old).tells (edge_view edge) (L.stand link.old).log (map place_of places.old) fetched.now events (L.stand link.new).log (map place_of places.new)) }
     ensures stays { OnErr result (places.new ≡ places.old) }
     ensures kept { IsLow (map place_of places.old) → IsLow (map place_of places.new) }

@@ -77,7 +77,7 @@ fn check_topic<L: Link>(
     topic: &str,
     parts: &[TopicPart],
 ) -> Result<(), AssignNo>
-    ensures goes { GoesOn (L.stand link.old).tells (L.stand link.new).tells (L.stand link.old).plain (L.stand link.new).plain (L.stand link.old).log (L.stand link.new).log }
+    ensures goes { GoesOn (L.stand link.old) (L.stand link.new) }
     ensures caused { IsCaused (L.stand link.old).counts (L.stand link.new).counts result }
     ensures code { (L.stand link.old).tells → IsLog (L.stand link.old).log → FitsCode (topic_code (L.stand link.old).log (map at_of parts.now) topic.now) result }
     ensures good { (L.stand link.old).plain → IfErr result (λ no. IsGood (refusal_of no)) }
@@ -100,7 +100,7 @@ fn check_place<L: Link>(
     place: usize,
 ) -> Result<(), AssignNo>
     requires within { place < length parts.now }
-    ensures goes { GoesOn (L.stand link.old).tells (L.stand link.new).tells (L.stand link.old).plain (L.stand link.new).plain (L.stand link.old).log (L.stand link.new).log }
+    ensures goes { GoesOn (L.stand link.old) (L.stand link.new) }
     ensures caused { IsCaused (L.stand link.old).counts (L.stand link.new).counts result }
     ensures code { (L.stand link.old).tells → IsLog (L.stand link.old).log → Pass (L.stand link.old).log (map at_of parts.now) (take place (map at_of parts.now)) → FitsNext (L.stand link.old).log (map at_of parts.now) place result }
     ensures good { (L.stand link.old).plain → IfErr result (λ no. IsGood (refusal_of no)) }
@@ -119,7 +119,7 @@ pub(crate) fn check_topics<L: Link>(
     link: &mut L,
     parts: &[TopicPart],
 ) -> Result<(), AssignNo>
-    ensures goes { GoesOn (L.stand link.old).tells (L.stand link.new).tells (L.stand link.old).plain (L.stand link.new).plain (L.stand link.old).log (L.stand link.new).log }
+    ensures goes { GoesOn (L.stand link.old) (L.stand link.new) }
     ensures caused { IsCaused (L.stand link.old).counts (L.stand link.new).counts result }
     ensures code { (L.stand link.old).tells → IsLog (L.stand link.old).log → FitsCode (lacking (L.stand link.old).log (map at_of parts.now) (map at_of parts.now)) result }
     ensures good { (L.stand link.old).plain → IfErr result (λ no. IsGood (refusal_of no)) }

@@ -71,7 +71,7 @@ returns-clause-got g c = λ t.
     (got_turned_back log places c.args.first (length fetched - c.args.first) fetched got (ap (λ m. m - c.args.first) n))
 
 pub returns-clause-given : goal.returns-clause-given
-returns-clause-given g c = λ plain t.
+returns-clause-given g c = λ turn t.
     let log : Log = (g.L.Link.stand c.fetch.new.self).log in
     let is = c.as_slice.ensures.value ∙ c.rotate_left.ensures.items in
     let places : List Place = map place_of c.args.places.now in
@@ -79,5 +79,5 @@ returns-clause-given g c = λ plain t.
     let n = as_many c.in_ok-asks.asks.items c.as_slice.result.now fetched places c.args.first c.in_ok-asks.ensures is c.in-Ok.ensures.fetched in
     let are : map asked c.as_slice.result.now ≡ turned c.args.first places = ap (map asked) is ∙ asked_turned c.in_ok-asks.asks.items places c.args.first c.in_ok-asks.ensures in
     subst (λ (fs : List Fetched). AreGiven c.args.most c.args.first log places (map rows_in fs)) (sym c.in_ok-turned_back.ensures)
-    (given_turned_back c.args.most log c.as_slice.result.now fetched places c.args.first (length fetched - c.args.first) are (c.in-Ok.ensures.turn plain t)
+    (given_turned_back c.args.most log c.as_slice.result.now fetched places c.args.first (length fetched - c.args.first) are (c.in-Ok.ensures.turn turn t)
     (omega (arith, c.requires.first, n, length-map c.args.places.now place_of)) refl)

@@ -30,7 +30,7 @@ fix_all-requires g c = record {
 
 pub returns-clause-goes : goal.returns-clause-goes
 returns-clause-goes g c =
-    goes_on _ _ _ _ _ _ (g.L.Link.stand c.args.link.now).log (g.L.Link.stand c.committed.new.link).log (g.L.Link.stand c.fix_all.new.link).log c.committed.ensures.goes c.fix_all.ensures.goes
+    goes_on (g.L.Link.stand c.args.link.now) (g.L.Link.stand c.committed.new.link) (g.L.Link.stand c.fix_all.new.link) c.committed.ensures.goes c.fix_all.ensures.goes
 
 pub returns-clause-fixes : goal.returns-clause-fixes
 returns-clause-fixes g c = λ tells is.

@@ -13,7 +13,7 @@ use Rattle.instance.proofs.fix.fix_all.Goals as goal
 
 pub returns-in_err-place-clause-goes : goal.returns-in_err-place-clause-goes
 returns-in_err-place-clause-goes g c =
-    goes_on _ _ _ _ _ _ (g.L.Link.stand c.args.link.now).log (g.L.Link.stand c.loop-i.link).log (g.L.Link.stand c.fix_next.new.link).log c.loop-i.invariant.goes c.fix_next.ensures.goes
+    goes_on (g.L.Link.stand c.args.link.now) (g.L.Link.stand c.loop-i.link) (g.L.Link.stand c.fix_next.new.link) c.loop-i.invariant.goes c.fix_next.ensures.goes
 
 pub returns-in_err-place-clause-good : goal.returns-in_err-place-clause-good
 returns-in_err-place-clause-good g c = λ plain tells all.
@@ -26,7 +26,7 @@ returns-in_err-place-clause-good g c = λ plain tells all.
 
 pub returns-in_err-push-clause-goes : goal.returns-in_err-push-clause-goes
 returns-in_err-push-clause-goes g c =
-    goes_on _ _ _ _ _ _ (g.L.Link.stand c.args.link.now).log (g.L.Link.stand c.loop-i.link).log (g.L.Link.stand c.fix_next.new.link).log c.loop-i.invariant.goes c.fix_next.ensures.goes
+    goes_on (g.L.Link.stand c.args.link.now) (g.L.Link.stand c.loop-i.link) (g.L.Link.stand c.fix_next.new.link) c.loop-i.invariant.goes c.fix_next.ensures.goes
 
 pub loop-i-preserved : goal.loop-i-preserved
 loop-i-preserved g c =
@@ -39,7 +39,7 @@ loop-i-preserved g c =
     let same : known ≡ read = search (rules, to_z-of_z) in
     let whole : c.push.new.places.items ≡ c.loop-i.places.items ++ c.in_ok-place.place ∷ [] = c.in_ok-push.ensures in
     record {
-      goes = goes_on _ _ _ _ _ _ a m b goes c.fix_next.ensures.goes;
+      goes = goes_on (g.L.Link.stand c.args.link.now) (g.L.Link.stand c.loop-i.link) (g.L.Link.stand c.fix_next.new.link) goes c.fix_next.ensures.goes;
       kept = counts_kept (g.L.Link.stand c.args.link.now).counts (g.L.Link.stand c.loop-i.link).counts (g.L.Link.stand c.fix_next.new.link).counts c.loop-i.invariant.kept c.fix_next.ensures.caused.kept;
       whose = ap (map at_in) whole ∙ whose_next c.args.parts.now c.loop-i.places.items c.loop-i.i c.index-parts-i.result c.in_ok-place.place c.loop-i-test.true c.index-parts-i.is c.loop-i.invariant.whose c.in_ok-place.ensures.whose;
       small = rw whole (low_push c.loop-i.places.items c.in_ok-place.place c.loop-i.invariant.small c.in_ok-place.ensures.small);

@@ -10,7 +10,7 @@ use Rattle.instance.proofs.fix.fix_all.Given as goal
 
 abbrev pub invariant-loop-i : goal.invariant-loop-i
 invariant-loop-i g l = record {
-  goes : GoesOn (g.L.Link.stand l.fn.link).tells (g.L.Link.stand l.link).tells (g.L.Link.stand l.fn.link).plain (g.L.Link.stand l.link).plain (g.L.Link.stand l.fn.link).log (g.L.Link.stand l.link).log;
+  goes : GoesOn (g.L.Link.stand l.fn.link) (g.L.Link.stand l.link);
   kept : CountsKept (g.L.Link.stand l.fn.link).counts (g.L.Link.stand l.link).counts;
   whose : map at_in l.places.items ≡ map at_of (take l.i l.parts);
   small : IsLow (map place_of l.places.items);

@@ -85,6 +85,6 @@ returns-clause-good g c = λ plain t have.
     (have_set (g.L.Link.stand c.args.link.now).log (g.L.Link.stand c.set_back.new.link).log (map place_of c.args.places.now) (map place_of c.set_back.new.places) (both.keeps t) (ap (map (λ (p : Place). p.at)) is ∙ ats_set_all (news_of (map place_of c.args.places.now) set.told) (map place_of c.args.places.now)) have)
 
 pub returns-clause-given : goal.returns-clause-given
-returns-clause-given g c = λ plain t.
+returns-clause-given g c = λ turn t.
     let both = passes_on c.fetch_from.ensures.passes c.set_back.ensures.passes in
-    c.fetch_from-2.ensures.given (both.plainly plain) (both.telling t)
+    c.fetch_from-2.ensures.given (both.turning turn) (both.telling t)

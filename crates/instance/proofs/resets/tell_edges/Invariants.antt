@@ -9,7 +9,7 @@ use Rattle.instance.proofs.resets.tell_edges.Given as goal
 
 abbrev pub invariant-loop-i : goal.invariant-loop-i
 invariant-loop-i g l = record {
-  passes : Passes (g.L.Link.stand l.fn.link).tells (g.L.Link.stand l.link).tells (g.L.Link.stand l.fn.link).plain (g.L.Link.stand l.link).plain (g.L.Link.stand l.fn.link).log (g.L.Link.stand l.link).log (g.L.Link.stand l.fn.link).counts (g.L.Link.stand l.link).counts;
+  passes : Passes (g.L.Link.stand l.fn.link) (g.L.Link.stand l.link);
   long : length l.told ≡ l.i;
   are : AreTold (take l.i l.fetched) l.told;
   low : All IsLowIf l.told;

@@ -21,10 +21,9 @@ pub loop-place-preserved : goal.loop-place-preserved
 loop-place-preserved g c =
     let a = (g.L.Link.stand c.args.link.now).log in
     let m = (g.L.Link.stand c.loop-place.link).log in
-    let b = (g.L.Link.stand c.check_place.new.link).log in
     let goes = c.loop-place.invariant.goes in
     record {
-      goes = goes_on _ _ _ _ _ _ a m b goes c.check_place.ensures.goes;
+      goes = goes_on (g.L.Link.stand c.args.link.now) (g.L.Link.stand c.loop-place.link) (g.L.Link.stand c.check_place.new.link) goes c.check_place.ensures.goes;
       kept = counts_kept (g.L.Link.stand c.args.link.now).counts (g.L.Link.stand c.loop-place.link).counts (g.L.Link.stand c.check_place.new.link).counts c.loop-place.invariant.kept c.check_place.ensures.caused.kept;
       pass = λ tells is.
           let keeps = goes.keeps tells in

@@ -8,7 +8,7 @@ use Rattle.instance.proofs.topics.check_topics.Given as goal
 
 abbrev pub invariant-loop-place : goal.invariant-loop-place
 invariant-loop-place g l = record {
-  goes : GoesOn (g.L.Link.stand l.fn.link).tells (g.L.Link.stand l.link).tells (g.L.Link.stand l.fn.link).plain (g.L.Link.stand l.link).plain (g.L.Link.stand l.fn.link).log (g.L.Link.stand l.link).log;
+  goes : GoesOn (g.L.Link.stand l.fn.link) (g.L.Link.stand l.link);
   kept : CountsKept (g.L.Link.stand l.fn.link).counts (g.L.Link.stand l.link).counts;
   pass : (g.L.Link.stand l.fn.link).tells → IsLog (g.L.Link.stand l.fn.link).log → Pass (g.L.Link.stand l.fn.link).log (map at_of l.parts) (take l.place (map at_of l.parts));
 }

@@ -2,6 +2,7 @@ use Rattle.std.proofs.Common.{ap}
 use Rattle.model.specs.World.{Key}
 use Rattle.broker_link.proofs.Going.{goes_nowhere}
 use Rattle.instance.specs.Views.{Live}
+use Rattle.instance.proofs.Handing.{no_look}
 use Rattle.instance.proofs.Telling.{told_seen}
 use Rattle.instance.proofs.Wanting.{never_by_topics, same}
 use Rattle.instance.proofs.instance.Instance.act.Goals as goal
@@ -15,6 +16,7 @@ returns-in_default g c =
       acts = λ advertise act is.
           told_seen advertise c.args.call.now c.self.inside.consumer key c.args.self.now c.self.view_is c.args.now c.args.round act is (g.L.Link.stand c.args.link.now).tells (g.L.Link.stand c.args.link.now).plain (g.L.Link.stand c.args.link.now).counts a
           c.told.result _ _ c.answered-in_default.ensures.events c.answered-in_default.ensures.said c.in_default.not-Assign c.in_default.not-Records c.told.ensures.says;
+      handed = λ timeout bound is. absurd (no_look c.args.call.now c.args.self.now.key timeout bound is c.in_default.not-Records);
       key = ap (λ (l : Live). l.key) c.self.view_is;
       unsubscribed = never_by_topics c.self.inside.consumer key c.args.self.now c.self.view_is;
       waits = λ none. absurd (cc (none, c.answered-in_default.ensures.some));

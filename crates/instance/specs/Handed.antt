@@ -1,0 +1,38 @@
+-- What the walk of a look had at hand: one fetch of the assigned partitions in turn (Apache Kafka protocol guide, Fetch; Confluent REST Proxy API v2, consumer records).
+use Rattle.std.specs.Prelude.{ℕ, ◌≡◌, ◌⊎◌, ◌*◌, min, List, [], ◌∷◌, map, Option, Some}
+use Rattle.model.specs.Log.{Log}
+use Rattle.model.specs.Walk.{Lot, turned, unwalked, walk}
+use Rattle.model.specs.World.{Key, Consumer}
+use Rattle.model.specs.Entry.{Call, Event, Reply, IsLinks}
+use Rattle.model.specs.Entry.Act.{Records}
+use Rattle.model.specs.Entry.Call.{Of}
+use Rattle.model.specs.Entry.Event.{Looked}
+use Rattle.model.specs.Texts.{Response, response_of}
+use Rattle.model.specs.Noted.{events_of, said_of}
+use Rattle.model.specs.Look.{LookEnds, after_events, at_most}
+use Rattle.instance.specs.Acting.{forms}
+use Rattle.instance.specs.Ending.{turn_of}
+use Rattle.instance.specs.Gathering.{AreGiven}
+use Rattle.instance.specs.Lots.{rule_of}
+
+-- something ended the look before its walk, and that is what is answered
+pub record IsCutShort (timeout bound : Option ℕ) (said : Option Response) : Type 0 where
+  pub why : Reply
+  pub links : IsLinks why
+  pub says : (advertise : List ℕ) (key : Key) → said ≡ Some (response_of advertise forms (Of key (Records [] timeout bound)) why)
+
+-- The walk ended the look. Of each partition of the consumer it had the rows that one fetch gives at this log: up to twice
+-- the bytes of a reply, at most 1 MiB, of the partitions in turn from the place in rotation on.
+pub record IsHanded (now round wait bound : ℕ) (c : Consumer) (log : Log) (said : Option Response) (c2 : Consumer) : Type 0 where
+  pub lots : List Lot
+  pub whose : map (λ lot. lot.place) lots ≡ c.assignment
+  pub given : AreGiven (min (2 * bound) 1048576) c.rotation log c.assignment (map (λ lot. lot.rows) lots)
+  pub reply : Option Reply
+  pub says : (advertise : List ℕ) (call : Call) → said ≡ said_of advertise forms (Some call) reply
+  pub ends : LookEnds now (turn_of round) wait c (walk (rule_of bound) unwalked (turned c.rotation lots)) (Looked round ∷ []) reply (Some c2)
+
+-- a look, by its events: the consumer is the one whose positions they set back
+abbrev pub LooksAtGiven : (now round : ℕ) → (timeout bound : Option ℕ) → Consumer → List (Key ⊎ Event) → Option Response → Log → Consumer → Type 0
+LooksAtGiven now round timeout bound c events said log c2 =
+    IsCutShort timeout bound said
+    ⊎ ((own : List Event) × (events ≡ events_of [] own) × IsHanded now round (at_most c.settings.timeout_ms timeout) (at_most 4194304 bound) (after_events own c) log said c2)
