@@ -4,14 +4,8 @@
 mod cursor;
 mod decoder;
 mod encoder;
-#[cfg(test)]
-mod json_tests;
 mod law;
 mod leaf;
-#[cfg(test)]
-mod tests;
-#[cfg(test)]
-mod told;
 
 pub use avro_datum::{AvroNo, Datum, MapItem};
 pub use decoder::decode;

@@ -8,12 +8,8 @@ mod json_pick;
 pub mod level;
 pub mod limits;
 pub mod pick;
-#[cfg(test)]
-mod read_tests;
 mod reader;
 mod text_leaf;
-#[cfg(test)]
-mod text_tests;
 mod writer;
 
 pub use datum::{
