@@ -2,14 +2,14 @@
 -- used for `idle` milliseconds expires; `caller` is the number of the one whose calls these are.
 use Rattle.std.specs.Prelude.{ℕ, ◌+◌, ◌≤◌, ◌≡◌, cond, List, [], ◌∷◌, All, Option, Some, None}
 use Rattle.gate_io.specs.Clocks.{Hand}
-use Rattle.model.specs.Log.{Log}
+use Rattle.model.specs.Log.{IsLog, Log}
 use Rattle.model.specs.World.{World}
 use Rattle.model.specs.Entry.{Call, Entry, Reply}
 use Rattle.model.specs.Entry.Act.{Create}
 use Rattle.model.specs.Entry.Call.{Of}
 use Rattle.model.specs.Legal.{Tally, Run}
 use Rattle.model.specs.Served.{EndsIn, Serves}
-use Rattle.model.specs.Noted.{IsTable, said_of}
+use Rattle.model.specs.Noted.{IsTable, Noted, said_of}
 use Rattle.model.specs.Texts.{Response, response_of}
 use Rattle.broker_link.specs.Causes.{Counts}
 use Rattle.broker_link.specs.Stands.{Stand}
@@ -19,7 +19,7 @@ use Rattle.rest_codes.specs.declared.response.Reply.{Reply as CodeReply}
 use Rattle.rest_codes.specs.declared.response.Reply.TheVariants as reply
 use Rattle.instance.specs.Acting.{shown}
 use Rattle.desk.specs.Shelf.{AllThere, world_in}
-use Rattle.desk.specs.Stepping.{AreLow}
+use Rattle.desk.specs.Stepping.{AreLow, StepsSo, never}
 use Rattle.desk.specs.Clocked.{IsClocked, behind}
 use Rattle.desk.specs.declared.shard.Shard.{Shard}
 
@@ -37,6 +37,10 @@ stood w a hand = record { world = w; log = a.log; hand = hand; counts = a.counts
 -- the same of a shard
 abbrev pub state_of : {L : Type 0} → (L → Stand) → Shard L → Hand → State
 state_of stand shard hand = stood (world_in shard.instances shard.last) (stand shard.link) hand
+
+-- one step of a shard, over a link that stands so
+abbrev pub ShardSteps : {L : Type 0} → (L → Stand) → Shard L → Noted → Shard L → Type 0
+ShardSteps stand a noted b = StepsSo never a.advertise (stand a.link) (world_in a.instances a.last) noted (stand b.link) (world_in b.instances b.last)
 
 -- What the counts rose by pays what the entries owe: a fault or a refusal each, and nothing else is owed.
 pub record Pays (before after : Counts) (owed : Tally) : Type 0 where
@@ -82,6 +86,14 @@ pub record IsAnswered (idle caller : ℕ) (advertise : List ℕ) (plain ticks : 
   pub serves : Serves call answer own
   pub says : said ≡ response_of advertise (let e = serves.last in let x = e.turn in x.forms) call answer
   pub counted : IsCounted s.counts t.counts answer
+
+-- a call of the one caller of a shard, 0, was answered, from where the clock stood to where it stands
+abbrev pub ShardAnswered : {L C : Type 0} → (L → Stand) → (C → Type 0) → (C → Hand) → Shard L → C → Call → Response → Shard L → C → Type 0
+ShardAnswered stand ticks hand a clock call said b clock2 = IsAnswered never 0 a.advertise (stand a.link).plain (ticks clock) call (state_of stand a (hand clock)) said (state_of stand b (hand clock2))
+
+-- the same, where the log is told
+abbrev pub ShardAnswers : {L C : Type 0} → (L → Stand) → (C → Type 0) → (C → Hand) → Shard L → C → Call → Response → Shard L → C → Type 0
+ShardAnswers stand ticks hand a clock call said b clock2 = (stand a.link).tells → IsLog (stand a.link).log → ShardAnswered stand ticks hand a clock call said b clock2
 
 -- One turn was taken for a call: one entry, and the text of its reply, if it has one. One without reply ends in its look.
 pub record IsTurn (idle caller : ℕ) (advertise : List ℕ) (plain ticks : Type 0) (call : Call) (round : ℕ) (s : State) (said : Option Response) (t : State) : Type 0 where

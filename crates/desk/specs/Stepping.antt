@@ -1,8 +1,8 @@
 -- What one step of a shard owes, over a link.
-use Rattle.std.specs.Prelude.{ℕ, ◌<◌, ◌^◌, ◌-◌, ◌≡◌, List, [], map, option_map, Option}
+use Rattle.std.specs.Prelude.{ℕ, ◌<◌, ◌^◌, ◌-◌, ◌≡◌, List, [], map, option_map, Option, Some}
 use Rattle.model.specs.Log.{Log, IsLog}
 use Rattle.model.specs.World.{World}
-use Rattle.model.specs.Entry.{Entry, Reply}
+use Rattle.model.specs.Entry.{Call, Entry, Reply}
 use Rattle.model.specs.Step.{Step, left}
 use Rattle.model.specs.Legal.{call_tally, no_tally}
 use Rattle.model.specs.Causes.{IsCaused}
@@ -30,6 +30,13 @@ noted e = record {
   table = e.table.value;
   reply = option_map response_in e.reply;
 }
+
+-- what an entry tells of its step, whatever the link tells
+pub record IsEntry (caller moment : ℕ) (call : Call) (round : ℕ) (e : CodeEntry) : Type 0 where
+  pub caller_is : e.caller ≡ caller
+  pub moment_is : e.moment ≡ moment
+  pub call_is : (noted e).call ≡ Some call
+  pub round_is : e.round ≡ Some round
 
 -- No instance is idle for so long: no moment reaches it.
 abbrev pub never : ℕ

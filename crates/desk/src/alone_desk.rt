@@ -9,7 +9,7 @@ ghost use Rattle.rest_calls.specs.Responses.{response_in};
 ghost use Rattle.rest_calls.specs.Views.{asked_of, batch_of, entered, HasFewRecords, HasRecords, NamesPartition, NamesPartitions};
 ghost use Rattle.desk.specs.Shelf.{world_in};
 ghost use Rattle.desk.specs.Stepping.{never};
-ghost use Rattle.desk.specs.Runs.{IsAnswered, IsTurn, Stays, named_after, state_of};
+ghost use Rattle.desk.specs.Runs.{IsTurn, ShardAnswered, ShardAnswers, Stays, named_after, state_of};
 
 use crate::naming::name_unnamed;
 use crate::{Entry, Shard};
@@ -29,8 +29,8 @@ const PAUSE_MS: u64 = 10;
 /// The gateway for one caller: one shard, and how many instances it has named.
 #[derive(Drop)]
 pub struct AloneDesk<L> {
-    pub shard: Shard<L>,
-    pub unnamed: u64,
+    shard: Shard<L>,
+    unnamed: u64,
 }
 
 /// Pauses after a look without reply.
@@ -109,9 +109,7 @@ impl<L: Link + Drop> AloneDesk<L> {
     #[tactic(auto, using(broker_link::proofs::Going::goes_on))]
     fn look_until_answered<C: Clock>(&mut self, alloc: Global, clock: &mut C, call: &Call) -> Reply
         requires whose { (key : Key) × (act : Act) × (asked_of call.now ≡ Of key act) }
-        ensures answered { (L.stand self.old.shard.link).tells → IsLog (L.stand self.old.shard.link).log
-            → IsAnswered never 0 self.old.shard.advertise (L.stand self.old.shard.link).plain (C.tells clock.old) (asked_of call.now)
-            (state_of L.stand self.old.shard (C.hand clock.old)) (response_in result) (state_of L.stand self.new.shard (C.hand clock.new)) }
+        ensures answered { ShardAnswers L.stand C.tells C.hand self.old.shard clock.old (asked_of call.now) (response_in result) self.new.shard clock.new }
         ensures unnamed { self.new.unnamed ≡ self.old.unnamed }
         ensures advertise { self.new.shard.advertise ≡ self.old.shard.advertise }
 
@@ -140,9 +138,7 @@ impl<L: Link + Drop> AloneDesk<L> {
         requires few { length batch.rows < 2 ^ 63 }
         requires named { All NamesPartition batch.rows }
         requires whose { asked_of asked.value ≡ Produce topic.now (batch_of batch) }
-        ensures answered { (L.stand self.old.shard.link).tells → IsLog (L.stand self.old.shard.link).log
-            → IsAnswered never 0 self.old.shard.advertise (L.stand self.old.shard.link).plain (C.tells clock.old) (Produce topic.now (batch_of batch))
-            (state_of L.stand self.old.shard (C.hand clock.old)) (response_in result) (state_of L.stand self.new.shard (C.hand clock.new)) }
+        ensures answered { ShardAnswers L.stand C.tells C.hand self.old.shard clock.old (Produce topic.now (batch_of batch)) (response_in result) self.new.shard clock.new }
         ensures unnamed { self.new.unnamed ≡ self.old.unnamed }
         ensures advertise { self.new.shard.advertise ≡ self.old.shard.advertise }
 
@@ -164,8 +160,7 @@ impl<L: Link + Drop> AloneDesk<L> {
         requires few { HasFewRecords call }
         requires named { NamesPartitions call }
         ensures answered { (L.stand self.old.shard.link).tells → IsLog (L.stand self.old.shard.link).log
-            → IsAnswered never 0 self.old.shard.advertise (L.stand self.old.shard.link).plain (C.tells clock.old) (entered 0 self.old.unnamed (asked_of call))
-            (state_of L.stand self.old.shard (C.hand clock.old)) (response_in result) (state_of L.stand self.new.shard (C.hand clock.new))
+            → ShardAnswered L.stand C.tells C.hand self.old.shard clock.old (entered 0 self.old.unnamed (asked_of call)) (response_in result) self.new.shard clock.new
             ⊎ Stays result self.old.shard self.new.shard clock.old clock.new }
         ensures unnamed { self.new.unnamed ≡ named_after (asked_of call) self.old.unnamed }
         ensures advertise { self.new.shard.advertise ≡ self.old.shard.advertise }

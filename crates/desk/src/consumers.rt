@@ -1,14 +1,10 @@
-ghost use Rattle.std.specs.Prelude.{◌≡◌, ◌<◌, ◌*◌, ◌^◌, ℕ, IfNone, IfSome, OnErr, OnOk, Some, None};
-ghost use Rattle.broker_link.specs.Stands.{Goes};
+ghost use Rattle.std.specs.Prelude.{◌≡◌, IfNone, IfSome, OnErr, OnOk, Some, None};
 ghost use Rattle.model.specs.World.{Key, IsConsumer};
 ghost use Rattle.model.specs.Entry.{Act};
 ghost use Rattle.model.specs.Entry.Call.{Of};
-ghost use Rattle.model.specs.Fixed.{SameCommits};
-ghost use Rattle.model.specs.Noted.{EndsInLook};
 ghost use Rattle.rest_calls.specs.Views.{asked_of, key_in};
-ghost use Rattle.instance.specs.Views.{events_in, said_in};
 ghost use Rattle.desk.specs.Consumers.{AreKeyed, AreSame, AreSound, Puts, live_under};
-ghost use Rattle.desk.specs.Doing.{Does};
+ghost use Rattle.desk.specs.Doing.{Consults, DoesAt, Waits};
 ghost use Rattle.desk.specs.Keys.{consumer_key};
 
 use crate::groups::{act_under, put_under, take_under};
@@ -48,16 +44,14 @@ impl Consumers {
         call: &Call,
     ) -> Option<Outcome>
         requires whose { (key : Key) × (act : Act) × (asked_of call.now ≡ Of key act) }
-        ensures does { IfSome result (λ outcome. Does (live_under self.old.groups (consumer_key (asked_of call.now))) (λ live. Puts self.old.groups (consumer_key (asked_of call.now)) live self.new.groups) (asked_of call.now) moment round (L.stand link.old).tells (L.stand link.old).plain (L.stand link.old).counts (L.stand link.new).counts (L.stand link.old).log (events_in outcome) (said_in outcome) (L.stand link.new).log) }
-        ensures waits { IfSome result (λ outcome. outcome.reply ≡ None → 10 * round < 2 ^ 32) }
-        ensures looks { IfSome result (λ outcome. outcome.reply ≡ None → EndsInLook (events_in outcome) round) }
+        ensures does { IfSome result (λ outcome. DoesAt (live_under self.old.groups (consumer_key (asked_of call.now))) (λ live. Puts self.old.groups (consumer_key (asked_of call.now)) live self.new.groups) (asked_of call.now) moment round (L.stand link.old) outcome (L.stand link.new)) }
+        ensures waits { IfSome result (Waits round) }
 
         ensures nobody { IfNone result (live_under self.old.groups (consumer_key (asked_of call.now)) ≡ None) }
         ensures stays { IfNone result (AreSame self.old.groups self.new.groups) }
         ensures link { IfNone result (link.new ≡ link.old) }
 
-        ensures goes { Goes (L.stand link.old) (L.stand link.new) }
-        ensures commits { (L.stand link.old).tells → SameCommits (L.stand link.old).log (L.stand link.new).log }
+        ensures consults { Consults (L.stand link.old) (L.stand link.new) }
     {
         act_under(&mut self.groups, alloc, link, moment, round, call)
     }

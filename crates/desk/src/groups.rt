@@ -1,15 +1,9 @@
 //! Instances by the text of their group and then of their name.
-ghost use Rattle.std.specs.Prelude.{◌≡◌, ◌<◌, ◌*◌, ◌^◌, ℕ, List, IfNone, IfSome, OnErr, OnOk, Some, None, string_bytes, true};
+ghost use Rattle.std.specs.Prelude.{◌≡◌, ℕ, List, IfNone, IfSome, OnErr, OnOk, Some, None, string_bytes, true};
 ghost use Rattle.std.specs.BTreeMap.{get_by_text};
-ghost use Rattle.broker_link.specs.Stands.{Goes};
-ghost use Rattle.model.specs.Entry.{Act};
-ghost use Rattle.model.specs.Entry.Call.{Of};
-ghost use Rattle.model.specs.Fixed.{SameCommits};
-ghost use Rattle.model.specs.Noted.{EndsInLook};
 ghost use Rattle.rest_calls.specs.Views.{asked_of, key_in};
-ghost use Rattle.instance.specs.Views.{Live, events_in, said_in};
 ghost use Rattle.desk.specs.Consumers.{AreSame, Puts, PutsName, live_under, named_in};
-ghost use Rattle.desk.specs.Doing.{Does};
+ghost use Rattle.desk.specs.Doing.{Consults, DoesAt, IsAsked, Waits};
 ghost use Rattle.desk.specs.Keys.{consumer_key, group_in, name_in_call};
 
 use crate::shelf::{group_of, name_of};
@@ -29,17 +23,15 @@ fn act_in<L: Link>(
     round: u32,
     call: &Call,
 ) -> Option<Outcome>
-    requires whose { (live : Live) → get_by_text names.old (name_in_call (asked_of call.now)) ≡ Some live → (act : Act) × (asked_of call.now ≡ Of live.key act) }
-    ensures does { IfSome result (λ outcome. Does (get_by_text names.old (name_in_call (asked_of call.now))) (λ live. PutsName (Some names.old) (name_in_call (asked_of call.now)) live (Some names.new)) (asked_of call.now) moment round (L.stand link.old).tells (L.stand link.old).plain (L.stand link.old).counts (L.stand link.new).counts (L.stand link.old).log (events_in outcome) (said_in outcome) (L.stand link.new).log) }
-    ensures waits { IfSome result (λ outcome. outcome.reply ≡ None → 10 * round < 2 ^ 32) }
-    ensures looks { IfSome result (λ outcome. outcome.reply ≡ None → EndsInLook (events_in outcome) round) }
+    requires whose { IsAsked (get_by_text names.old (name_in_call (asked_of call.now))) (asked_of call.now) }
+    ensures does { IfSome result (λ outcome. DoesAt (get_by_text names.old (name_in_call (asked_of call.now))) (λ live. PutsName (Some names.old) (name_in_call (asked_of call.now)) live (Some names.new)) (asked_of call.now) moment round (L.stand link.old) outcome (L.stand link.new)) }
+    ensures waits { IfSome result (Waits round) }
 
     ensures nobody { IfNone result (get_by_text names.old (name_in_call (asked_of call.now)) ≡ None) }
     ensures stays { IfNone result (names.new ≡ names.old) }
     ensures link { IfNone result (link.new ≡ link.old) }
 
-    ensures goes { Goes (L.stand link.old) (L.stand link.new) }
-    ensures commits { (L.stand link.old).tells → SameCommits (L.stand link.old).log (L.stand link.new).log }
+    ensures consults { Consults (L.stand link.old) (L.stand link.new) }
 {
     match names.get_mut(name_of(call)) {
         Some(instance) => Some(instance.act(alloc, link, moment, round, call)),
@@ -56,17 +48,15 @@ pub(crate) fn act_under<L: Link>(
     round: u32,
     call: &Call,
 ) -> Option<Outcome>
-    requires whose { (live : Live) → live_under groups.old (consumer_key (asked_of call.now)) ≡ Some live → (act : Act) × (asked_of call.now ≡ Of live.key act) }
-    ensures does { IfSome result (λ outcome. Does (live_under groups.old (consumer_key (asked_of call.now))) (λ live. Puts groups.old (consumer_key (asked_of call.now)) live groups.new) (asked_of call.now) moment round (L.stand link.old).tells (L.stand link.old).plain (L.stand link.old).counts (L.stand link.new).counts (L.stand link.old).log (events_in outcome) (said_in outcome) (L.stand link.new).log) }
-    ensures waits { IfSome result (λ outcome. outcome.reply ≡ None → 10 * round < 2 ^ 32) }
-    ensures looks { IfSome result (λ outcome. outcome.reply ≡ None → EndsInLook (events_in outcome) round) }
+    requires whose { IsAsked (live_under groups.old (consumer_key (asked_of call.now))) (asked_of call.now) }
+    ensures does { IfSome result (λ outcome. DoesAt (live_under groups.old (consumer_key (asked_of call.now))) (λ live. Puts groups.old (consumer_key (asked_of call.now)) live groups.new) (asked_of call.now) moment round (L.stand link.old) outcome (L.stand link.new)) }
+    ensures waits { IfSome result (Waits round) }
 
     ensures nobody { IfNone result (live_under groups.old (consumer_key (asked_of call.now)) ≡ None) }
     ensures stays { IfNone result (AreSame groups.old groups.new) }
     ensures link { IfNone result (link.new ≡ link.old) }
 
-    ensures goes { Goes (L.stand link.old) (L.stand link.new) }
-    ensures commits { (L.stand link.old).tells → SameCommits (L.stand link.old).log (L.stand link.new).log }
+    ensures consults { Consults (L.stand link.old) (L.stand link.new) }
 {
     match groups.get_mut(group_of(call)) {
         Some(names) => act_in(names, alloc, link, moment, round, call),

@@ -1,17 +1,18 @@
 ghost use Rattle.std.specs.Prelude.{◌≡◌, ◌<◌, ◌*◌, ◌^◌, max, ℕ, List, [], IfNone, IfOk, IfSome, All, length, Some, None, true};
-ghost use Rattle.broker_link.specs.Stands.{Goes, IsOnceAtMost};
+ghost use Rattle.broker_link.specs.Stands.{IsOnceAtMost};
 ghost use Rattle.model.specs.World.{Key, nobody};
 ghost use Rattle.model.specs.Entry.{Act};
 ghost use Rattle.model.specs.Entry.Call.{Of, Produce};
-ghost use Rattle.model.specs.Fixed.{SameCommits};
 ghost use Rattle.model.specs.Noted.{EndsInLook};
 ghost use Rattle.rest_calls.specs.Responses.{response_in};
 ghost use Rattle.rest_calls.specs.Views.{asked_of, batch_of, is_unnamed, NamesPartition};
 ghost use Rattle.instance.specs.Views.{events_in, said_in};
 ghost use Rattle.desk.specs.Keys.{consumer_key};
 ghost use Rattle.desk.specs.Shelf.{consumer_in, is_create_call, world_in};
-ghost use Rattle.desk.specs.Calling.{CallsSo, OthersStay};
-ghost use Rattle.desk.specs.Stepping.{StepsSo, never, noted};
+ghost use Rattle.desk.specs.Calling.{CallsAt, CallsFirst, OthersKept, SameSetup};
+ghost use Rattle.desk.specs.Doing.{Consults, Waits};
+ghost use Rattle.desk.specs.Runs.{ShardSteps};
+ghost use Rattle.desk.specs.Stepping.{IsEntry, noted};
 
 use crate::Entry;
 use crate::consumers::Consumers;
@@ -29,12 +30,12 @@ use std::snapshot::Snapshot;
 /// The consumers of some keys over a link, and the moment of the last step, in milliseconds.
 #[derive(Drop)]
 pub struct Shard<L> {
-    pub link: L,
+    link: L,
     /// The link as it was at the beginning, as contracts see it.
-    pub first: Snapshot<L>,
-    pub advertise: Text,
-    pub instances: Consumers,
-    pub last: u64,
+    first: Snapshot<L>,
+    advertise: Text,
+    instances: Consumers,
+    last: u64,
 }
 
 /// What came of a call that had no event.
@@ -87,21 +88,15 @@ impl<L: Link + Drop> Shard<L> {
     /// was done.
     fn call_live(&mut self, alloc: Global, moment: u64, round: u32, call: &Call) -> Option<Outcome>
         requires whose { (key : Key) × (act : Act) × (asked_of call.now ≡ Of key act) }
-        ensures calls { IfSome result (λ outcome. (advertise : List ℕ) (key : Key) (act : Act) → asked_of call.now ≡ Of key act
-            → CallsSo advertise key moment round act (L.stand self.old.link).tells (L.stand self.old.link).plain (L.stand self.old.link).counts (L.stand self.new.link).counts (consumer_in self.old.instances key) (L.stand self.old.link).log (events_in outcome) (said_in outcome) (L.stand self.new.link).log (consumer_in self.new.instances key)) }
-        ensures others { (key : Key) (act : Act) → asked_of call.now ≡ Of key act → OthersStay key self.old.instances self.new.instances }
-        ensures waits { IfSome result (λ outcome. outcome.reply ≡ None → 10 * round < 2 ^ 32) }
-        ensures looks { IfSome result (λ outcome. outcome.reply ≡ None → EndsInLook (events_in outcome) round) }
+        ensures calls { IfSome result (λ outcome. (advertise : List ℕ) → CallsAt advertise moment round (asked_of call.now) (L.stand self.old.link) self.old.instances outcome (L.stand self.new.link) self.new.instances) }
+        ensures others { OthersKept (asked_of call.now) self.old.instances self.new.instances }
+        ensures waits { IfSome result (Waits round) }
 
         ensures nobody { IfNone result (consumer_in self.new.instances (consumer_key (asked_of call.now)) ≡ None) }
-        ensures none { IfNone result (consumer_in self.old.instances (consumer_key (asked_of call.now)) ≡ None) }
-        ensures link { IfNone result (self.new.link ≡ self.old.link) }
+        ensures none { IfNone result ((consumer_in self.old.instances (consumer_key (asked_of call.now)) ≡ None) × (self.new.link ≡ self.old.link)) }
 
-        ensures advertise { self.new.advertise ≡ self.old.advertise }
-        ensures first { self.new.first ≡ self.old.first }
-        ensures last { self.new.last ≡ self.old.last }
-        ensures goes { Goes (L.stand self.old.link) (L.stand self.new.link) }
-        ensures commits { (L.stand self.old.link).tells → SameCommits (L.stand self.old.link).log (L.stand self.new.link).log }
+        ensures setup { SameSetup self.old self.new }
+        ensures consults { Consults (L.stand self.old.link) (L.stand self.new.link) }
     {
         let Some(outcome) = self
             .instances
@@ -120,13 +115,10 @@ impl<L: Link + Drop> Shard<L> {
     fn create(&mut self, alloc: Global, moment: u64, call: &Call) -> Reply
         requires create { is_create_call (asked_of call.now) ≡ true }
         requires none { consumer_in self.old.instances (consumer_key (asked_of call.now)) ≡ None }
-        ensures calls { (key : Key) (act : Act) (round : ℕ) → asked_of call.now ≡ Of key act
-            → CallsSo self.old.advertise key moment round act (L.stand self.old.link).tells (L.stand self.old.link).plain (L.stand self.old.link).counts (L.stand self.old.link).counts None (L.stand self.old.link).log [] (Some (response_in result)) (L.stand self.old.link).log (consumer_in self.new.instances key) }
-        ensures others { (key : Key) (act : Act) → asked_of call.now ≡ Of key act → OthersStay key self.old.instances self.new.instances }
+        ensures calls { CallsFirst self.old.advertise moment (asked_of call.now) (L.stand self.old.link) [] (Some (response_in result)) self.new.instances }
+        ensures others { OthersKept (asked_of call.now) self.old.instances self.new.instances }
         ensures link { self.new.link ≡ self.old.link }
-        ensures advertise { self.new.advertise ≡ self.old.advertise }
-        ensures first { self.new.first ≡ self.old.first }
-        ensures last { self.new.last ≡ self.old.last }
+        ensures setup { SameSetup self.old self.new }
     {
         let group = group_of(call);
         let name = name_of(call);
@@ -148,14 +140,11 @@ impl<L: Link + Drop> Shard<L> {
     /// Does a call under whose key nobody is live.
     fn call_missing(&mut self, alloc: Global, moment: u64, call: &Call) -> Outcome
         requires none { consumer_in self.old.instances (consumer_key (asked_of call.now)) ≡ None }
-        ensures calls { (key : Key) (act : Act) (round : ℕ) → asked_of call.now ≡ Of key act
-            → CallsSo self.old.advertise key moment round act (L.stand self.old.link).tells (L.stand self.old.link).plain (L.stand self.old.link).counts (L.stand self.old.link).counts None (L.stand self.old.link).log (events_in result) (said_in result) (L.stand self.old.link).log (consumer_in self.new.instances key) }
-        ensures others { (key : Key) (act : Act) → asked_of call.now ≡ Of key act → OthersStay key self.old.instances self.new.instances }
+        ensures calls { CallsFirst self.old.advertise moment (asked_of call.now) (L.stand self.old.link) (events_in result) (said_in result) self.new.instances }
+        ensures others { OthersKept (asked_of call.now) self.old.instances self.new.instances }
         ensures replied { result.reply ≡ None → ⊥ }
         ensures link { self.new.link ≡ self.old.link }
-        ensures advertise { self.new.advertise ≡ self.old.advertise }
-        ensures first { self.new.first ≡ self.old.first }
-        ensures last { self.new.last ≡ self.old.last }
+        ensures setup { SameSetup self.old self.new }
     {
         if is_create(call) {
             let reply = self.create(alloc, moment, call);
@@ -168,17 +157,11 @@ impl<L: Link + Drop> Shard<L> {
     /// Does a consumer's call, whether an instance is live under its key or not.
     fn dispatch(&mut self, alloc: Global, moment: u64, round: u32, call: &Call) -> Outcome
         requires whose { (key : Key) × (act : Act) × (asked_of call.now ≡ Of key act) }
-        ensures calls { (key : Key) (act : Act) → asked_of call.now ≡ Of key act
-            → CallsSo self.old.advertise key moment round act (L.stand self.old.link).tells (L.stand self.old.link).plain (L.stand self.old.link).counts (L.stand self.new.link).counts (consumer_in self.old.instances key) (L.stand self.old.link).log (events_in result) (said_in result) (L.stand self.new.link).log (consumer_in self.new.instances key) }
-        ensures others { (key : Key) (act : Act) → asked_of call.now ≡ Of key act → OthersStay key self.old.instances self.new.instances }
-        ensures waits { result.reply ≡ None → 10 * round < 2 ^ 32 }
-        ensures looks { result.reply ≡ None → EndsInLook (events_in result) round }
-        ensures advertise { self.new.advertise ≡ self.old.advertise }
-        ensures first { self.new.first ≡ self.old.first }
-        ensures last { self.new.last ≡ self.old.last }
-
-        ensures goes { Goes (L.stand self.old.link) (L.stand self.new.link) }
-        ensures commits { (L.stand self.old.link).tells → SameCommits (L.stand self.old.link).log (L.stand self.new.link).log }
+        ensures calls { CallsAt self.old.advertise moment round (asked_of call.now) (L.stand self.old.link) self.old.instances result (L.stand self.new.link) self.new.instances }
+        ensures others { OthersKept (asked_of call.now) self.old.instances self.new.instances }
+        ensures waits { Waits round result }
+        ensures setup { SameSetup self.old self.new }
+        ensures consults { Consults (L.stand self.old.link) (L.stand self.new.link) }
     {
         match self.call_live(alloc, moment, round, call) {
             Some(outcome) => outcome,
@@ -190,13 +173,10 @@ impl<L: Link + Drop> Shard<L> {
     /// where that is greater; `round` counts the looks that the call had before.
     pub fn step(&mut self, alloc: Global, caller: u32, now: u64, round: u32, call: &Call) -> Entry
         requires whose { (key : Key) × (act : Act) × (asked_of call.now ≡ Of key act) }
-        ensures steps { StepsSo never self.old.advertise (L.stand self.old.link) (world_in self.old.instances self.old.last) (noted result) (L.stand self.new.link) (world_in self.new.instances self.new.last) }
+        ensures steps { ShardSteps L.stand self.old (noted result) self.new }
 
         // What is known of the entry, whatever the link tells.
-        ensures caller { result.caller ≡ caller }
-        ensures moment { result.moment ≡ max now self.old.last }
-        ensures call { (noted result).call ≡ Some (asked_of call.now) }
-        ensures round { result.round ≡ Some round }
+        ensures entry { IsEntry caller (max now self.old.last) (asked_of call.now) round result }
         ensures waits { result.reply ≡ None → 10 * round < 2 ^ 32 }
         ensures looks { result.reply ≡ None → EndsInLook (noted result).events round }
 
@@ -232,13 +212,10 @@ impl<L: Link + Drop> Shard<L> {
         requires few { length batch.rows < 2 ^ 63 }
         requires named { All NamesPartition batch.rows }
         requires whose { asked_of asked.value ≡ Produce topic.now (batch_of batch) }
-        ensures steps { StepsSo never self.old.advertise (L.stand self.old.link) (world_in self.old.instances self.old.last) (noted result) (L.stand self.new.link) (world_in self.new.instances self.new.last) }
+        ensures steps { ShardSteps L.stand self.old (noted result) self.new }
 
         // What is known of the entry, whatever the link tells.
-        ensures caller { result.caller ≡ caller }
-        ensures moment { result.moment ≡ max now self.old.last }
-        ensures call { (noted result).call ≡ Some (Produce topic.now (batch_of batch)) }
-        ensures round { result.round ≡ Some 0 }
+        ensures entry { IsEntry caller (max now self.old.last) (Produce topic.now (batch_of batch)) 0 result }
         ensures replied { result.reply ≡ None → ⊥ }
         ensures asked { IsOnceAtMost result.moment (L.stand self.old.link).produces (L.stand self.new.link).produces }
 

@@ -20,7 +20,7 @@ returns-clause-turned g c = λ told log.
     let steps = c.step-entry.ensures in
     let none_is : c.is_none.result ≡ is_none c.step-entry.result.reply = not_not c.is_none.result c.step-entry.result.reply c.is_none.ensures in
     turned_of (asked_of c.args.call.now) 0 old.shard.advertise c.now_ms-now.result c.args.round (g.L.Link.stand old.shard.link) (g.L.Link.stand new.link) (g.C.Clock.tells c.args.clock.now) (world_in old.shard.instances old.shard.last) (world_in new.instances new.last) (g.C.Clock.hand c.args.clock.now) (g.C.Clock.hand c.pause_if_waiting.new.clock)
-    c.step-entry.result c.step-entry.result.reply steps.steps steps.caller steps.moment steps.call steps.round
+    c.step-entry.result c.step-entry.result.reply steps.steps steps.entry.caller_is steps.entry.moment_is steps.entry.call_is steps.entry.round_is
     (λ ticks. c.now_ms-now.ensures.moment ticks ∙ ap (λ (h : Hand). h.now) (c.now_ms-now.ensures.hand ticks))
     (λ ticks. c.pause_if_waiting.ensures.hand (c.now_ms-now.ensures.telling ticks) ∙ (ap (λ (b : Bool). cond b (after_pause 10 (g.C.Clock.hand c.now_ms-now.new.self)) (g.C.Clock.hand c.now_ms-now.new.self)) none_is
     ∙ ap (λ (h : Hand). cond (is_none c.step-entry.result.reply) (after_pause 10 h) h) (c.now_ms-now.ensures.hand ticks)))

@@ -17,7 +17,7 @@ returns-in-Some-clause-answered g c = λ told log.
     let new = c.produce-reply.new.self in
     let steps = c.produce-reply.ensures in
     let turned = turned_of (Produce c.args.topic.now (batch_of c.args.batch)) 0 old.shard.advertise c.now_ms-now.result 0 (g.L.Link.stand old.shard.link) (g.L.Link.stand new.link) (g.C.Clock.tells c.args.clock.now) (world_in old.shard.instances old.shard.last) (world_in new.instances new.last) (g.C.Clock.hand c.args.clock.now) (g.C.Clock.hand c.now_ms-now.new.self)
-    c.produce-reply.result c.produce-reply.result.reply steps.steps steps.caller steps.moment steps.call steps.round
+    c.produce-reply.result c.produce-reply.result.reply steps.steps steps.entry.caller_is steps.entry.moment_is steps.entry.call_is steps.entry.round_is
     (λ ticks. c.now_ms-now.ensures.moment ticks ∙ ap (λ (h : Hand). h.now) (c.now_ms-now.ensures.hand ticks))
     (λ ticks. c.now_ms-now.ensures.hand ticks ∙ ap (λ (b : Bool). cond b (after_pause 10 (after_read (g.C.Clock.hand c.args.clock.now))) (after_read (g.C.Clock.hand c.args.clock.now))) (sym (ap is_none c.in-Some.is)))
     refl (λ x asked none step. produce_looks c.args.topic.now (batch_of c.args.batch) (world_in old.shard.instances old.shard.last) (g.L.Link.stand old.shard.link).log x (g.L.Link.stand new.link).log (world_in new.instances new.last) asked none step) told log in

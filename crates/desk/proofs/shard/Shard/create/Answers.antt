@@ -52,9 +52,7 @@ returns-in-Ok-add g c =
           (λ settings made. c.in-Ok.ensures.consumer ∙ ap (λ (s : Settings). fresh s c.args.moment) (c.settings_in-settings.ensures key settings (is ∙ ap (λ (x : Act). Of key x) made)));
       others = λ key act is. others_of old.instances.groups new.groups call key act (Some live) is puts;
       link = refl;
-      first = refl;
-      advertise = refl;
-      last = refl;
+      setup = record { advertise = refl; first = refl; last = refl };
     }
 
 pub returns-in-Err-add : goal.returns-in-Err-add
@@ -68,7 +66,5 @@ returns-in-Err-add g c =
           (consumers_same old.instances.groups new.groups c.in-Err-add.ensures.stays key ∙ (ap (λ (k : Key). consumer_in old.instances k) (sym (ap consumer_key is)) ∙ c.requires.none));
       others = λ key act is other apart. consumers_same old.instances.groups new.groups c.in-Err-add.ensures.stays other;
       link = refl;
-      first = refl;
-      advertise = refl;
-      last = refl;
+      setup = record { advertise = refl; first = refl; last = refl };
     }
