@@ -2,7 +2,6 @@
 use avro_codec::{AvroNo, Datum, MapItem, decode, encode, encode_into};
 use avro_schema::{Schema, SchemaNo};
 use gate_io::Text;
-use json_span::{JsonNo, Tree};
 use sqlite_items::{Boxed, Items};
 use std::alloc::Global;
 use std::process::Abort;
@@ -81,12 +80,12 @@ fn schema_of(alloc: Global, text: &str) -> Result<Schema, SchemaNo> {
     Schema::read(alloc, text)
 }
 
-fn tree_of(alloc: Global, text: &str) -> Result<Tree, JsonNo> {
-    json_span::read(alloc, text.as_bytes())
-}
-
-fn read_tree(alloc: Global, schema: &Schema, tree: &Tree) -> Result<Datum, AvroNo> {
-    Datum::read(alloc, schema, tree, tree.root())
+/// The datum of a JSON text, or its refusal. None where the text is no JSON.
+fn read_json(alloc: Global, schema: &Schema, json: &str) -> Option<Result<Datum, AvroNo>> {
+    let Ok(tree) = json_span::read(alloc, json.as_bytes()) else {
+        return None;
+    };
+    Some(Datum::read(alloc, schema, &tree, tree.root()))
 }
 
 fn read_bytes(alloc: Global, schema: &Schema, bytes: &[u8]) -> Result<Datum, AvroNo> {
@@ -138,17 +137,11 @@ fn of_read(alloc: Global, schema: &Schema, datum: &Datum) -> Result<String, Fail
     }
 }
 
-fn of_tree(alloc: Global, schema: &Schema, tree: &Tree) -> Result<String, Fail> {
-    match read_tree(alloc, schema, tree) {
-        Ok(datum) => of_read(alloc, schema, &datum),
-        Err(no) => told_no(alloc, no),
-    }
-}
-
 fn of_json(alloc: Global, schema: &Schema, json: &str) -> Result<String, Fail> {
-    match tree_of(alloc, json) {
-        Ok(tree) => of_tree(alloc, schema, &tree),
-        Err(_) => text(alloc, "no JSON"),
+    match read_json(alloc, schema, json) {
+        Some(Ok(datum)) => of_read(alloc, schema, &datum),
+        Some(Err(no)) => told_no(alloc, no),
+        None => text(alloc, "no JSON"),
     }
 }
 
