@@ -269,7 +269,7 @@ fn are_not_read(rt: &impl Abort, alloc: Global, cases: &[(&str, &[&str])]) -> Re
             streams,
             requests: &[ONE],
             left: 0,
-            ending: "2 at 0\nusage: restgate session TOPIC:PARTS [TOPIC:PARTS ..]\n",
+            ending: "2 at 0\nusage: restgate session [--advertise HOST:PORT] TOPIC:PARTS [TOPIC:PARTS ..]\n",
             responses: &[],
             written: 0,
         };
