@@ -1,5 +1,8 @@
 pub mod Answered
 pub mod Progress
-pub mod Statuses
-pub mod Wants
+pub mod Ran
+pub mod Sending
+pub mod Serving
 pub mod Sessions
+pub mod Turning
+pub mod Wants

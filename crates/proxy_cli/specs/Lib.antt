@@ -1,3 +1,4 @@
+pub mod Causes
 pub mod Ended
 pub mod Patience
 pub mod Program

@@ -2,6 +2,7 @@
 use Rattle.std.specs.Prelude.{◌≡◌, ◌⊎◌, ℕ, List, Option, None}
 use Rattle.gate_io.specs.Clocks.{Hand}
 use Rattle.gate_io.specs.Counts.{Rose}
+use Rattle.proxy_cli.specs.Causes.{SinkFailed}
 use Rattle.proxy_cli.specs.Session.{IsSession, ServesAll, ServesFirst, ServesSome, ServesUntil}
 use Rattle.proxy_cli.specs.Status.{IsStatus}
 use Rattle.command_words.specs.Words.{words_of}
@@ -20,5 +21,5 @@ pub record SessionRan {S K C : Type 0} (left asked : S → Option (List ℕ)) (b
   pub unread : words_of given ≡ None → (status ≡ 2) ⊎ (status ≡ 7)
   pub untouched : words_of given ≡ None → (sink2 ≡ sink) × (source2 ≡ source)
   pub read : status ≡ 3 → Rose (broken source) (broken source2)
-  pub write : status ≡ 4 → Rose (failed sink) (failed sink2) ⊎ Rose (stalled sink) (stalled sink2)
+  pub write : status ≡ 4 → SinkFailed failed stalled sink sink2
   pub known : IsStatus status

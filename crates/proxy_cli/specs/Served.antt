@@ -7,7 +7,7 @@ use Rattle.model.specs.World.{Key}
 use Rattle.model.specs.Entry.{Call, Entry, shown_to}
 use Rattle.model.specs.Stored.{HasStored, is_unknown, stored_by}
 use Rattle.model.specs.Stretch.{Cut, StretchLaw}
-use Rattle.broker_link.specs.Stands.{Stand}
+use Rattle.broker_link.specs.Stands.{Goes, Stand}
 use Rattle.rest_calls.specs.Reading.{Reading, Refusal}
 use Rattle.rest_calls.specs.Reading.Read.{Calls}
 use Rattle.rest_calls.specs.Responses.{response_in}
@@ -89,6 +89,15 @@ pub record Answering (idle caller : ℕ) (plain ticks : Type 0) (advertise : Lis
 -- the desk's link tells a log
 abbrev pub IsKnown : {L : Type 0} → (L → Stand) → AloneDesk L → Type 0
 IsKnown stand desk = (stand desk.shard.link).tells × IsLog (stand desk.shard.link).log
+
+-- nothing was asked of the desk
+abbrev pub IsIdle : {L C : Type 0} → AloneDesk L → C → AloneDesk L → C → Type 0
+IsIdle desk clock desk2 clock2 = (desk2 ≡ desk) × (clock2 ≡ clock)
+
+-- the desk's link went on, its consumers are told the address as before, and its clock still tells
+abbrev pub DeskGoes : {L C : Type 0} → (L → Stand) → (C → Type 0) → AloneDesk L → C → AloneDesk L → C → Type 0
+DeskGoes stand ticks desk clock desk2 clock2 =
+    (desk2.shard.advertise ≡ desk.shard.advertise) × Goes (stand desk.shard.link) (stand desk2.shard.link) × (ticks clock → ticks clock2)
 
 -- one request was answered, from a desk and clock to a desk and clock, by caller 0, and nothing expires
 abbrev pub Exchanges : {L C : Type 0} → (L → Stand) → (C → Type 0) → (C → Hand) → AloneDesk L → C → AloneDesk L → C → Request → Reply → Type 0

@@ -1,11 +1,13 @@
 -- A session: what is written for the bytes of its input. `answers` says that requests were answered with replies: that of one
 -- caller over one shard here, and any other for a connection of another kind.
-use Rattle.std.specs.Prelude.{◌≡◌, ◌⊎◌, ◌<◌, ℕ, ◌+◌, List, [], ◌∷◌, ◌++◌, length, take, true, false, Option, Some, ⊤}
+use Rattle.std.specs.Prelude.{◌≡◌, ◌⊎◌, ◌<◌, ℕ, ◌+◌, List, [], ◌∷◌, ◌++◌, length, take, true, false, Option, Some, ⊤, Result, Ok, Err}
 use Rattle.std.specs.Io.KnownBytes.{Appends, Consumes}
 use Rattle.gate_io.specs.Clocks.{Hand}
 use Rattle.broker_link.specs.Made.{empty_log, no_counts}
 use Rattle.rest_codes.specs.Response.{response_of}
 use Rattle.rest_codes.specs.declared.response.Reply.{Reply}
+use Rattle.http_conn.specs.declared.request.ConnNo.{ConnNo}
+use Rattle.http_conn.specs.declared.request.ConnNo.TheVariants.{ReadFault, WriteFault, Want}
 use Rattle.http_conn.specs.declared.request.Request.{Request}
 use Rattle.http_conn.specs.Stream.{Ending, Stream, StreamSoFar, Begins, IsBad, is_closed}
 use Rattle.http_conn.specs.Stream.Ending.{BadPlace}
@@ -101,12 +103,22 @@ ServesFirst answers left held held2 = (input : List ℕ) → left ≡ Some input
 abbrev pub ServesUntil : {S : Type 0} → (left asked : S → Option (List ℕ)) → S → S → (answers : List Request → List Reply → Type 0) → Option (List ℕ) → Option (List ℕ) → ℕ → Type 0
 ServesUntil left asked old new answers held held2 n = (input : List ℕ) → left old ≡ Some input → (written : List ℕ) × Appends held held2 written × CutOff asked old new answers input written n
 
+-- What is said of a connection, by its result.
+abbrev pub Serves : {S : Type 0} → (left asked : S → Option (List ℕ)) → S → S → (answers : List Request → List Reply → Type 0) → (held held2 : Option (List ℕ)) → Result Ended ConnNo → Type 0
+Serves left asked old new answers held held2 (Ok ended) = EndsSo ended left asked old new answers held held2
+Serves left asked old new answers held held2 (Err ReadFault) = ServesSome answers (left old) (left new) held held2
+Serves left asked old new answers held held2 (Err (WriteFault n)) = ServesUntil left asked old new answers held held2 n
+Serves left asked old new answers held held2 (Err Want) = ServesFirst answers (left old) held held2
+
 -- the gateway at which a session begins: nobody is live, over an empty log of the words' topics
 abbrev pub first_gateway : Command → Hand → Gateway
 first_gateway command hand = record { state = record { world = nobody; log = empty_log (plans_of command); hand = hand; counts = no_counts }; unnamed = 0 }
 
--- What is said of the requests of a session, where the words ask for one: they are answered by one run from that gateway, which
--- ends with the clock as it stands, over a link that never fails.
+-- What is said of the requests of a command: they are answered by one run from its first gateway, which ends with the clock as it
+-- stands, over a link that never fails.
+abbrev pub IsRunOf : Command → (ticks : Type 0) → Hand → Hand → ((answers : List Request → List Reply → Type 0) → Type 0) → Type 0
+IsRunOf command ticks hand hand2 says = (t : Gateway) × (t.state.hand ≡ hand2) × says (Answering never 0 ⊤ ticks (advertise_of command) (first_gateway command hand) t)
+
+-- the same of a session, whose words ask for a command
 abbrev pub IsSession : List (List ℕ) → (ticks : Type 0) → Hand → Hand → ((answers : List Request → List Reply → Type 0) → Type 0) → Type 0
-IsSession words ticks hand hand2 says =
-    (command : Command) × (words_of words ≡ Some command) × (t : Gateway) × (t.state.hand ≡ hand2) × says (Answering never 0 ⊤ ticks (advertise_of command) (first_gateway command hand) t)
+IsSession words ticks hand hand2 says = (command : Command) × (words_of words ≡ Some command) × IsRunOf command ticks hand hand2 says

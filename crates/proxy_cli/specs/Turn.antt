@@ -1,9 +1,12 @@
 -- One turn of a session: one request, or why there is no further one.
-use Rattle.std.specs.Prelude.{◌≡◌, ◌||◌, ◌<◌, ℕ, List, [], length, take, Bool, true, false, Option}
+use Rattle.std.specs.Prelude.{◌≡◌, ◌⊎◌, ◌||◌, ◌<◌, ℕ, List, [], length, take, Bool, true, false, Option, None, Some, Result, Ok, Err}
 use Rattle.std.specs.Io.KnownBytes.{Appends}
 use Rattle.rest_codes.specs.Response.{response_of}
 use Rattle.rest_codes.specs.declared.response.Reply.{Reply}
+use Rattle.http_conn.specs.declared.request.ConnNo.{ConnNo}
+use Rattle.http_conn.specs.declared.request.ConnNo.TheVariants.{ReadFault, WriteFault, Want}
 use Rattle.http_conn.specs.declared.request.Request.{Request}
+use Rattle.http_conn.specs.Next.{IsWaiting}
 use Rattle.http_conn.specs.Stream.{Ending, IsRequest, IsCut, IsBad}
 use Rattle.http_conn.specs.Stream.Ending.{End, Closed, Limit, CutShort, BadPlace}
 use Rattle.http_conn.specs.Told.{Comes, Conn}
@@ -46,6 +49,13 @@ pub record EndsHere (why : EndWhy) (all : List ℕ) (left : Option (List ℕ)) (
 abbrev pub CutAt : ℕ → List ℕ → Option (List ℕ) → Option (List ℕ) → Type 0
 CutAt n bytes before now = (n < length bytes) × Appends before now (take n bytes)
 
+-- the response to a reply of which this is so was written, or its first bytes were
+abbrev pub Sends : (says : Reply → Type 0) → Bool → (before now : Option (List ℕ)) → Result Unit ConnNo → Type 0
+Sends says close before now (Ok done) = (said : Reply) × says said × Appends before now (response_of said close)
+Sends says close before now (Err (WriteFault n)) = (said : Reply) × says said × CutAt n (response_of said close) before now
+Sends says close before now (Err ReadFault) = ⊥
+Sends says close before now (Err Want) = ⊥
+
 -- a request was answered, and its response was cut
 pub record CutsReply (answers : Request → Reply → Type 0) (n : ℕ) (all : List ℕ) (before now : Option (List ℕ)) (close : Bool) : Type 0 where
   pub request : Request
@@ -62,3 +72,13 @@ pub record CutsRefusal (n : ℕ) (all : List ℕ) (before now : Option (List ℕ
   pub said : Reply
   pub replied : OrWant wanted said
   pub cut : CutAt n (response_of said true) before now
+
+-- One turn by its result. `answers` says that a request was answered, and `idle` that nothing was asked of the desk.
+abbrev pub Turns : (answers : Request → Reply → Type 0) (idle : Type 0) → Conn → Conn → (left left2 before now : Option (List ℕ)) → Bool → Result (Option EndWhy) ConnNo → Type 0
+Turns answers idle conn conn2 left left2 before now close (Ok None) = (all : List ℕ) → Comes conn.held left all → ServesOne answers all conn2 left2 before now close
+Turns answers idle conn conn2 left left2 before now close (Ok (Some why)) = idle × ((all : List ℕ) → Comes conn.held left all → EndsHere why all left2 before now)
+Turns answers idle conn conn2 left left2 before now close (Err (WriteFault n)) =
+    (all : List ℕ) → Comes conn.held left all → CutsReply answers n all before now close ⊎ (CutsRefusal n all before now × idle)
+Turns answers idle conn conn2 left left2 before now close (Err ReadFault) =
+    idle × (now ≡ before) × ((all : List ℕ) → Comes conn.held left all → Comes conn2.held left2 all × IsWaiting conn2.held)
+Turns answers idle conn conn2 left left2 before now close (Err Want) = idle × (now ≡ before)

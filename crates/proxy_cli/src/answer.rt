@@ -1,6 +1,4 @@
-ghost use Rattle.broker_link.specs.Stands.{Goes};
-ghost use Rattle.std.specs.Prelude.{◌≡◌};
-ghost use Rattle.proxy_cli.specs.Served.{Exchanges, IsKnown};
+ghost use Rattle.proxy_cli.specs.Served.{DeskGoes, Exchanges, IsKnown};
 
 use broker_link::Link;
 use desk::AloneDesk;
@@ -18,10 +16,7 @@ pub(crate) fn answer<L: Link + Drop, C: Clock>(
     request: &Request,
 ) -> Reply
     ensures answered { IsKnown L.stand desk.old → Exchanges L.stand C.tells C.hand desk.old clock.old desk.new clock.new request.now result }
-
-    ensures advertise { desk.new.shard.advertise ≡ desk.old.shard.advertise }
-    ensures goes { Goes (L.stand desk.old.shard.link) (L.stand desk.new.shard.link) }
-    ensures ticking { C.tells clock.old → C.tells clock.new }
+    ensures goes { DeskGoes L.stand C.tells desk.old clock.old desk.new clock.new }
 {
     match call_of(alloc, request) {
         Ok(call) => desk.answer(alloc, clock, call),

@@ -1,10 +1,11 @@
-ghost use Rattle.std.specs.Prelude.{◌≡◌, ◌⊎◌, ℕ, List, Some, None, Result, map, string_bytes};
+ghost use Rattle.std.specs.Prelude.{◌≡◌, ℕ, Err, map, string_bytes};
 ghost use Rattle.gate_io.specs.Counts.{Rose};
-ghost use Rattle.http_conn.specs.declared.request.ConnNo.TheVariants.{WriteFault, ReadFault, Want as WantConn};
+ghost use Rattle.http_conn.specs.declared.request.ConnNo.TheVariants.{WriteFault, ReadFault};
+ghost use Rattle.proxy_cli.specs.Causes.{SinkFailed};
 ghost use Rattle.proxy_cli.specs.Program.{SessionRan};
-ghost use Rattle.proxy_cli.specs.Session.{IsSession, ServesAll, ServesFirst, ServesSome, ServesUntil};
-ghost use Rattle.proxy_cli.specs.Status.{IsStatus, served_status};
-ghost use Rattle.command_words.specs.Words.{advertise_of, plans_of, words_of};
+ghost use Rattle.proxy_cli.specs.Session.{IsRunOf, Serves};
+ghost use Rattle.proxy_cli.specs.Status.{served_status};
+ghost use Rattle.command_words.specs.Words.{advertise_of, plans_of};
 
 use crate::ended::Ended;
 use crate::session::serve_stream;
@@ -57,56 +58,28 @@ fn status_of<E: Sink>(err: &mut E, served: Result<Ended, ConnNo>) -> u8
     }
 }
 
-/// Serves the requests of a source by the words of `session`, with the clauses of `SessionRan` one by one.
-fn serve_words<S: Source, K: Sink, E: Sink, C: Clock>(
+/// Serves the requests of a source by a command, over a log in memory of its own.
+fn serve_command<S: Source, K: Sink, C: Clock>(
     alloc: Global,
-    words: &[String],
+    command: &Command,
     src: &mut S,
     sink: &mut K,
-    err: &mut E,
     clock: &mut C,
-) -> u8
-    ensures output { result ≡ 0 → IsSession (map string_bytes words.now) (C.tells clock.old) (C.hand clock.old) (C.hand clock.new) (λ answers. ServesAll S.left S.asked src.old src.new answers (K.held sink.old) (K.held sink.new)) }
-
-    ensures lost { result ≡ 3 → IsSession (map string_bytes words.now) (C.tells clock.old) (C.hand clock.old) (C.hand clock.new) (λ answers. ServesSome answers (S.left src.old) (S.left src.new) (K.held sink.old) (K.held sink.new)) }
-    ensures cut { result ≡ 4 → IsSession (map string_bytes words.now) (C.tells clock.old) (C.hand clock.old) (C.hand clock.new) (λ answers. (n : ℕ) × ServesUntil S.left S.asked src.old src.new answers (K.held sink.old) (K.held sink.new) n) }
-    ensures starved { result ≡ 7 → (sink.new ≡ sink.old) ⊎ IsSession (map string_bytes words.now) (C.tells clock.old) (C.hand clock.old) (C.hand clock.new) (λ answers. ServesFirst answers (S.left src.old) (K.held sink.old) (K.held sink.new)) }
-
-    ensures words { result ≡ 2 → words_of (map string_bytes words.now) ≡ None }
-    ensures unread { words_of (map string_bytes words.now) ≡ None → (result ≡ 2) ⊎ (result ≡ 7) }
-    ensures untouched { words_of (map string_bytes words.now) ≡ None → (sink.new ≡ sink.old) × (src.new ≡ src.old) }
-    ensures read { result ≡ 3 → Rose (S.faults src.old) (S.faults src.new) }
-    ensures write { result ≡ 4 → Rose (K.faults sink.old) (K.faults sink.new) ⊎ Rose (K.stalls sink.old) (K.stalls sink.new) }
-    ensures known { IsStatus result }
+) -> Result<Ended, ConnNo>
+    ensures serves { IsRunOf command.now (C.tells clock.old) (C.hand clock.old) (C.hand clock.new) (λ answers. Serves S.left S.asked src.old src.new answers (K.held sink.old) (K.held sink.new) result) }
+    ensures read { result ≡ Err ReadFault → Rose (S.faults src.old) (S.faults src.new) }
+    ensures write { (n : ℕ) → result ≡ Err (WriteFault n) → SinkFailed K.faults K.stalls sink.old sink.new }
 {
-    let command = match read_words(alloc, words) {
-        Ok(command) => command,
-        Err(WordNo::Bad(text)) => {
-            say(err, text.as_bytes());
-            return 2;
-        }
-        Err(WordNo::Want) => {
-            say(err, b"out of memory");
-            return 7;
-        }
-    };
-    let link = match MemLink::new(alloc, topics_in(&command)) {
+    let link = match MemLink::new(alloc, topics_in(command)) {
         Ok(link) => link,
-        Err(Want) => {
-            say(err, b"out of memory");
-            return 7;
-        }
+        Err(Want) => return Err(ConnNo::Want),
     };
-    let advertise = match Text::from_str(alloc, advertise_in(&command)) {
+    let advertise = match Text::from_str(alloc, advertise_in(command)) {
         Ok(advertise) => advertise,
-        Err(AllocError) => {
-            say(err, b"out of memory");
-            return 7;
-        }
+        Err(AllocError) => return Err(ConnNo::Want),
     };
     let mut desk = AloneDesk::new(alloc, link, advertise);
-    let served = serve_stream(alloc, src, sink, &mut desk, clock);
-    status_of(err, served)
+    serve_stream(alloc, src, sink, &mut desk, clock)
 }
 
 /// Serves the requests of a source by the words of `session`, and answers the status: 0 where the
@@ -123,7 +96,20 @@ pub fn run_session<S: Source, K: Sink, E: Sink, C: Clock>(
 ) -> u8
     ensures session { SessionRan S.left S.asked S.faults K.held K.faults K.stalls C.tells C.hand (map string_bytes words.now) src.old src.new sink.old sink.new clock.old clock.new result }
 {
-    serve_words(alloc, words, src, sink, err, clock)
+    match read_words(alloc, words) {
+        Ok(command) => {
+            let served = serve_command(alloc, &command, src, sink, clock);
+            status_of(err, served)
+        }
+        Err(WordNo::Bad(text)) => {
+            say(err, text.as_bytes());
+            2
+        }
+        Err(WordNo::Want) => {
+            say(err, b"out of memory");
+            7
+        }
+    }
 }
 
 /// Runs the command that the words ask for: `session` alone, as `run_session` does.
