@@ -7,9 +7,10 @@ use Rattle.std.proofs.lemmas.Str.{IsUtf8-from_ascii}
 use Rattle.std.proofs.lemmas.Str.Ascii.{IsAscii-cons, IsAscii-nil}
 use Rattle.httparse.specs.Grammar.{RequestHead, IsRequestHead, ReadsRequest, print_request, LineEnd, print_blank, lf, MayBecomeRequest, NeverHasRequest, EndsInTarget, IsField, IsToken, is_token_byte, is_uri_byte}
 use Rattle.httparse.proofs.GrammarLemmas.{request_unique, print_request-append}
-use Rattle.http_conn.specs.Asked.{asked_in}
-use Rattle.http_conn.specs.Fields.{values_of, joined, is_encoding, asks_close}
-use Rattle.http_conn.specs.Stream.{HasHead, IsBadPlace, IsBad, IsHopeless, IsCut, IsRequest, frame, fields_of, is_mark}
+use Rattle.http_head.specs.Asked.{asked_in}
+use Rattle.http_head.specs.Fields.{values_of, joined, is_encoding, asks_close}
+use Rattle.http_conn.specs.Stream.{IsBadPlace, IsBad, IsHopeless, IsCut, IsRequest, is_mark}
+use Rattle.http_head.specs.Head.{HasHead, frame, fields_of}
 use Rattle.httparse.proofs.OpenLemmas.{letter_is_token}
 use Rattle.rest_codes.specs.declared.response.Reply.{Reply}
 use Rattle.rest_codes.specs.Errors.{refusal_of}

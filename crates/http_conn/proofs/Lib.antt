@@ -1,11 +1,6 @@
 pub mod BeginsLemmas
-pub mod MemberLemmas
-pub mod AskedLemmas
-pub mod FieldLemmas
 pub mod BufferLemmas
 pub mod StreamLemmas
-pub mod TargetLemmas
-pub mod JudgeLemmas
 pub mod FrontLemmas
 pub mod LawLemmas
 pub mod StreamLaw

@@ -9,10 +9,11 @@ use Rattle.httparse.specs.Grammar.{HasNoRequest, MayBecomeRequest}
 use Rattle.httparse.specs.declared.spans.HeaderSpan.{HeaderSpan}
 use Rattle.http_conn.specs.Told.{Comes, StillComes, LastRead}
 use Rattle.http_conn.specs.Next.{IsHeadless, IsInHead, IsInLine, IsShort, NeedsMore, is_line_end}
-use Rattle.http_conn.specs.Stream.{max_head}
-use Rattle.http_conn.specs.Parts.{IsHead}
-use Rattle.http_conn.specs.declared.judge.Head.{Head}
-use Rattle.http_conn.proofs.StreamLemmas.{IsHead-behind, cut_in_body, no_request_no_head}
+use Rattle.http_head.specs.Head.{max_head}
+use Rattle.http_head.specs.Parts.{IsHead}
+use Rattle.http_head.specs.declared.verdict.Head.{Head}
+use Rattle.http_conn.proofs.StreamLemmas.{IsHead-behind, cut_in_body}
+use Rattle.http_head.proofs.HeadLemmas.{no_request_no_head}
 
 -- nothing was read
 pub never_read : {S : Type 0} (left asked : S → Option (List ℕ)) (held : List ℕ) (old new : S) (Is : List ℕ → Type 0) → new ≡ old → LastRead left asked held old new Is

@@ -4,9 +4,10 @@ use Rattle.std.specs.Prelude.{◌⊎◌}
 use Rattle.httparse.specs.Grammar.{HasNoRequest, RequestHead, print_request}
 use Rattle.httparse.specs.declared.spans.HeaderSpan.{HeaderSpan}
 use Rattle.httparse.proofs.GrammarLemmas.{request_unique}
-use Rattle.http_conn.specs.Stream.{IsRequest, frame}
-use Rattle.http_conn.specs.Parts.{IsHead}
-use Rattle.http_conn.specs.declared.judge.Head.{Head}
+use Rattle.http_conn.specs.Stream.{IsRequest}
+use Rattle.http_head.specs.Head.{frame}
+use Rattle.http_head.specs.Parts.{IsHead}
+use Rattle.http_head.specs.declared.verdict.Head.{Head}
 use Rattle.http_conn.specs.declared.request.Request.{Request}
 use Rattle.http_conn.proofs.LawLemmas.{size_same}
 

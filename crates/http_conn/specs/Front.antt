@@ -3,7 +3,7 @@ use Rattle.std.specs.Prelude.{◌≡◌, ℕ, List, [], Option}
 use Rattle.std.specs.Io.KnownBytes.{IsAtEnd}
 use Rattle.httparse.specs.declared.spans.HeaderSpan.{HeaderSpan}
 use Rattle.http_conn.specs.Stream.{IsBadPlace, IsCutHead}
-use Rattle.http_conn.specs.Parts.{IsHead}
+use Rattle.http_head.specs.Parts.{IsHead}
 use Rattle.http_conn.specs.declared.connection.Front.{Front}
 use Rattle.http_conn.specs.declared.connection.Front.TheVariants.{Whole, Bad, Cut, End}
 

@@ -1,9 +1,4 @@
 pub mod Told
-pub mod Member
-pub mod Asked
-pub mod Fields
 pub mod Stream
 pub mod Next
-pub mod Blank
-pub mod Parts
 pub mod Front

@@ -1,7 +1,8 @@
 -- What stands at the front of the bytes that are still to come.
 use Rattle.std.specs.Prelude.{◌≡◌, ◌⊎◌, ◌++◌, ◌<◌, List, [], ℕ, Bool, true, false, ◌==◌, length}
 use Rattle.std.specs.List.{list_any}
-use Rattle.http_conn.specs.Stream.{IsRequest, IsCut, IsCutHead, IsBad, max_head}
+use Rattle.http_conn.specs.Stream.{IsRequest, IsCut, IsCutHead, IsBad}
+use Rattle.http_head.specs.Head.{max_head}
 use Rattle.http_conn.specs.declared.request.Next.{Next}
 use Rattle.http_conn.specs.declared.request.Next.TheVariants.{Ready, Continue, End, CutShort, Bad}
 

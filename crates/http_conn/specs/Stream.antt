@@ -1,38 +1,17 @@
 -- The requests of a stream of bytes (RFC 9112). A head is judged by the grammar of `httparse`.
-use Rattle.std.specs.Prelude.{◌≡◌, ℕ, ◌+◌, ◌<◌, ◌≤◌, ◌⊎◌, ◌==◌, Bool, true, false, List, [], ◌∷◌, ◌++◌, length, map, Result, Ok, Err, codes, ⊤}
+use Rattle.std.specs.Prelude.{◌≡◌, ℕ, ◌+◌, ◌<◌, ◌≤◌, ◌⊎◌, ◌==◌, Bool, true, false, List, [], ◌∷◌, ◌++◌, length, Ok, codes, ⊤}
 use Rattle.std.specs.List.{list_any, before_first, after_first}
-use Rattle.httparse.specs.Grammar.{RequestHead, ReadsRequest, print_request, NeverHasRequest, EndsInTarget, MayBecomeRequest}
-use Rattle.httparse.specs.Spans.{name_and_value}
+use Rattle.httparse.specs.Grammar.{RequestHead, NeverHasRequest, EndsInTarget, MayBecomeRequest}
 use Rattle.rest_codes.specs.declared.response.Reply.{Reply}
 use Rattle.rest_codes.specs.Errors.{refusal_of}
-use Rattle.http_conn.specs.Asked.{asked_in}
-use Rattle.http_conn.specs.Fields.{frame_of, values_of, joined, is_encoding, asks_close}
+use Rattle.http_head.specs.Asked.{asked_in}
+use Rattle.http_head.specs.Fields.{values_of, joined, is_encoding, asks_close}
+use Rattle.http_head.specs.Head.{max_head, HasHead, HasNoHead, IsRefused, fields_of, frame}
 use Rattle.http_conn.specs.declared.request.Request.{Request}
-
--- the longest head
-abbrev pub max_head : ℕ
-max_head = 16384
 
 -- the most requests of a connection
 abbrev pub max_requests : ℕ
 max_requests = 100000
-
--- the bytes begin with this head, which isn't too long
-pub record HasHead (bytes : List ℕ) (head : RequestHead) (after : List ℕ) : Type 0 where
-  pub reads : ReadsRequest bytes head after
-  pub short : length (print_request head) ≤ max_head
-
--- the bytes begin with no head that isn't too long
-abbrev pub HasNoHead : List ℕ → Type 0
-HasNoHead bytes = (head : RequestHead) (after : List ℕ) → HasHead bytes head after → ⊥
-
--- the name and the value of each field
-abbrev pub fields_of : RequestHead → List (List ℕ × List ℕ)
-fields_of head = map name_and_value head.fields
-
--- the size of the body that a head tells, or the status that refuses it
-abbrev pub frame : RequestHead → Result ℕ ℕ
-frame head = frame_of head.minor head.target (fields_of head)
 
 -- the mark between a path and its query
 abbrev pub is_mark : ℕ → Bool
@@ -52,13 +31,6 @@ pub record IsRequest (bytes : List ℕ) (request : Request) (rest : List ℕ) : 
   pub content_type : request.content_type ≡ joined (values_of (codes "content-type") (fields_of head))
   pub encoded : request.encoded ≡ list_any is_encoding (values_of (codes "content-encoding") (fields_of head))
   pub close : request.close ≡ asks_close head.minor (fields_of head)
-
--- a whole head that is refused with this status
-pub record IsRefused (bytes : List ℕ) (code : ℕ) : Type 0 where
-  pub head : RequestHead
-  pub after : List ℕ
-  pub at : HasHead bytes head after
-  pub why : frame head ≡ Err code
 
 -- a front of the bytes shorter than the longest head can't become a head, whatever follows.
 -- A front that ends inside a target decides nothing.

@@ -1,17 +1,10 @@
 //! The requests of a stream of bytes, read in any pieces, and the bytes that answer them.
 #![tactic(auto)]
 
-mod asked;
 mod buffer;
 mod connection;
-mod fields;
-mod judge;
 mod law;
-mod member;
 mod request;
-mod target;
-#[cfg(test)]
-mod tests;
 mod whole;
 
 pub use connection::Connection;

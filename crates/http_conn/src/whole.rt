@@ -1,14 +1,12 @@
 ghost use Rattle.std.specs.Prelude.{◌≡◌, ◌≤◌, ◌+◌, drop, length, IfOk};
 ghost use Rattle.std.specs.List.{before_first, after_first};
 ghost use Rattle.http_conn.specs.Stream.{IsRequest, is_mark};
-ghost use Rattle.http_conn.specs.Parts.{IsHead};
+ghost use Rattle.http_head.specs.Parts.{IsHead};
 
 use crate::Request;
-use crate::asked::asked_text;
-use crate::fields::{asks_close, is_encoded, joined_values};
-use crate::judge::Head;
 use gate_io::{Items, Text};
 use http::Method;
+use http_head::{Head, asked_text, asks_close, is_encoded, joined_values};
 use httparse::spans::HeaderSpan;
 use std::alloc::{AllocError, Global};
 

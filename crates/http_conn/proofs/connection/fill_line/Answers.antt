@@ -1,7 +1,7 @@
 use Rattle.std.proofs.Common.{◌∙◌, ◌<◌, length, sym, refl, rules, arith, inl}
 use Rattle.std.proofs.lemmas.Grind.{common_steps}
 use Rattle.http_conn.specs.Next.{IsInHead}
-use Rattle.http_conn.specs.Stream.{max_head}
+use Rattle.http_head.specs.Head.{max_head}
 use Rattle.http_conn.proofs.PatientLemmas.{never_read, read_more, line_starts, line_goes_on}
 use Rattle.http_conn.proofs.connection.fill_line.Goals as goal
 

@@ -2,7 +2,7 @@ use Rattle.std.proofs.Common.{◌≡◌, ◌≤◌, ◌<◌, ◌-◌, length, Li
 use Rattle.std.specs.Prelude.{◌⊎◌}
 use Rattle.http_conn.specs.Told.{Comes, LastRead}
 use Rattle.http_conn.specs.Next.{IsInHead, IsInLine}
-use Rattle.http_conn.specs.Stream.{max_head}
+use Rattle.http_head.specs.Head.{max_head}
 use Rattle.http_conn.proofs.connection.fill_line.Given as goal
 
 abbrev pub invariant-loop-held : goal.invariant-loop-held

@@ -1,5 +1,6 @@
 use Rattle.std.proofs.Common.{ℕ, length-take, arith}
-use Rattle.http_conn.proofs.StreamLemmas.{front_lost, front_open, front_has_head, head_of}
+use Rattle.http_conn.proofs.StreamLemmas.{front_lost, front_open}
+use Rattle.http_head.proofs.HeadLemmas.{front_has_head, head_of}
 use Rattle.http_conn.proofs.connection.full_status.Goals as goal
 
 pub slice_bounds-judge-end : goal.slice_bounds-judge-end

@@ -1,8 +1,9 @@
 use Rattle.std.proofs.Common.{take, drop, subst, List, ℕ}
 use Rattle.std.proofs.lemmas.List.{take-append-drop}
-use Rattle.http_conn.specs.Stream.{max_head}
-use Rattle.http_conn.specs.Parts.{IsHead}
-use Rattle.http_conn.proofs.StreamLemmas.{IsHead-append, full_refused, full_none, never_none}
+use Rattle.http_head.specs.Head.{max_head}
+use Rattle.http_head.specs.Parts.{IsHead}
+use Rattle.http_conn.proofs.StreamLemmas.{full_refused}
+use Rattle.http_head.proofs.HeadLemmas.{IsHead-append, full_none, never_none}
 use Rattle.http_conn.proofs.connection.judge_full.Goals as goal
 
 pub returns-in-Whole : goal.returns-in-Whole

@@ -1,7 +1,7 @@
 use Rattle.std.proofs.Common.{◌<◌, subst, List, ℕ, length, arith, refl, inl, inr}
 use Rattle.http_conn.specs.Front.{FrontIs}
 use Rattle.httparse.specs.Grammar.{HasNoRequest, MayBecomeRequest}
-use Rattle.http_conn.specs.Stream.{max_head}
+use Rattle.http_head.specs.Head.{max_head}
 use Rattle.http_conn.specs.Next.{IsHeadless, NeedsMore}
 use Rattle.http_conn.proofs.PatientLemmas.{never_read, head_read_on, unfinished_waits}
 use Rattle.http_conn.proofs.PromptLemmas.{prompt_same, prompt_lost}

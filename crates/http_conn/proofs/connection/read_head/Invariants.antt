@@ -2,7 +2,8 @@ use Rattle.std.proofs.Common.{◌≤◌, ◌-◌, length, List, ℕ}
 use Rattle.http_conn.specs.Told.{Comes, LastRead}
 use Rattle.http_conn.specs.Next.{NeedsMore}
 use Rattle.std.specs.Prelude.{◌⊎◌, ◌≡◌}
-use Rattle.http_conn.specs.Stream.{max_head, IsRequest}
+use Rattle.http_conn.specs.Stream.{IsRequest}
+use Rattle.http_head.specs.Head.{max_head}
 use Rattle.http_conn.specs.declared.request.Request.{Request}
 use Rattle.http_conn.proofs.connection.read_head.Given as goal
 

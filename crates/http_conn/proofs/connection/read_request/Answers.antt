@@ -3,7 +3,7 @@ use Rattle.std.specs.Io.KnownBytes.{IsAtEnd, prepend_known}
 use Rattle.http_conn.specs.declared.connection.Front.{Front}
 use Rattle.http_conn.specs.Stream.{IsBadPlace, IsCut, IsRequest}
 use Rattle.http_conn.specs.Front.{FrontIs}
-use Rattle.http_conn.specs.Parts.{IsHead}
+use Rattle.http_head.specs.Parts.{IsHead}
 use Rattle.http_conn.proofs.FrontLemmas.{bad_given}
 use Rattle.http_conn.proofs.PromptLemmas.{whole_held}
 use Rattle.http_conn.proofs.PatientLemmas.{body_read_on}

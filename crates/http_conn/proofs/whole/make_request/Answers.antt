@@ -2,11 +2,12 @@ use Rattle.std.proofs.Common.{◌≡◌, ◌∙◌, ◌+◌, ◌-◌, ℕ, List,
 use Rattle.std.proofs.lemmas.List.Folds.{drop_split}
 use Rattle.std.specs.List.{before_first, after_first, list_any}
 use Rattle.httparse.specs.Spans.{header_bytes}
-use Rattle.http_conn.specs.Asked.{asked_in, is_served}
-use Rattle.http_conn.specs.Fields.{values_of, joined, is_encoding, asks_close}
-use Rattle.http_conn.specs.Stream.{is_mark, fields_of}
-use Rattle.http_conn.proofs.StreamLemmas.{head_of}
-use Rattle.http_conn.proofs.FieldLemmas.{framed_target}
+use Rattle.http_head.specs.Asked.{asked_in, is_served}
+use Rattle.http_head.specs.Fields.{values_of, joined, is_encoding, asks_close}
+use Rattle.http_conn.specs.Stream.{is_mark}
+use Rattle.http_head.specs.Head.{fields_of}
+use Rattle.http_head.proofs.HeadLemmas.{head_of}
+use Rattle.http_head.proofs.FieldLemmas.{framed_target}
 use Rattle.http_conn.proofs.whole.make_request.Goals as goal
 
 abbrev size_is : ℕ → Result ℕ ℕ

@@ -1,7 +1,0 @@
-use Rattle.std.proofs.Common.{◌≡◌, ◌+◌, min, take}
-use Rattle.std.specs.Str.Parse.{digits_value}
-use Rattle.http_conn.specs.Fields.{max_body}
-use Rattle.http_conn.proofs.fields.value_of.Given as goal
-
-abbrev pub invariant-loop-b : goal.invariant-loop-b
-invariant-loop-b l = l.size ≡ min (digits_value 10 (take l.b-index l.digits)) (max_body + 1)

@@ -1,0 +1,58 @@
+ghost use Rattle.std.specs.Prelude.{◌≡◌, ◌≤◌, length};
+ghost use Rattle.httparse.specs.Spans.{IsRequestWithin, IsRequestOf};
+ghost use Rattle.http_head.specs.Head.{max_head};
+ghost use Rattle.http_head.specs.Parts.{Judges, max_spans};
+
+use crate::fields::framed_size;
+use crate::target::ends_in_target;
+use httparse::Status;
+use httparse::spans::{HeaderSpan, RequestSpans, parse_request};
+
+/// Where the parts of a head are, and how long its body is.
+#[derive(Clone, Copy)]
+pub struct Head {
+    pub spans: RequestSpans,
+    pub size: usize,
+}
+
+/// What the bytes at the front of a stream are.
+#[derive(Clone, Copy)]
+pub enum Verdict {
+    Whole(Head),
+    Unfinished,
+    Refused(u32),
+    Lost,
+}
+
+/// Judges a head that is whole.
+fn judge_head(buf: &[u8], headers: &[HeaderSpan], spans: RequestSpans) -> Verdict
+    requires short { length buf.now ≤ max_head }
+    requires within { IsRequestWithin buf.now headers.now spans }
+    requires head { IsRequestOf buf.now headers.now spans }
+    ensures { Judges buf.now headers.now result }
+{
+    let fields = &headers[..spans.headers];
+    match framed_size(buf, fields, spans.version, spans.path.of(buf)) {
+        Ok(size) => Verdict::Whole(Head { spans, size }),
+        Err(code) => Verdict::Refused(code),
+    }
+}
+
+/// Judges the bytes at the front of a stream. There is room for the fields of every head.
+pub fn judge(buf: &[u8], headers: &mut [HeaderSpan]) -> Verdict
+    requires short { length buf.now ≤ max_head }
+    requires room { max_spans ≤ length headers.old }
+    ensures { Judges buf.now headers.new result }
+{
+    match parse_request(buf, headers) {
+        Ok(Status::Complete(spans)) => judge_head(buf, headers, spans),
+        Ok(Status::Partial) => Verdict::Unfinished,
+        Err(_) => {
+            if ends_in_target(buf) {
+                Verdict::Unfinished
+            } else {
+                Verdict::Lost
+            }
+        }
+    }
+}
