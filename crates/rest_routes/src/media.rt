@@ -1,5 +1,5 @@
-ghost use Rattle.std.specs.Prelude.{◌≡◌, ◌||◌, ◌&&◌};
-ghost use Rattle.std.specs.List.{before_first, list_any, slice_split};
+ghost use Rattle.std.specs.Prelude.{◌≡◌, ◌<◌, IfSome, length};
+ghost use Rattle.std.specs.List.{before_first, list_any, position, slice_split};
 ghost use Rattle.http_head.specs.Member.{is_comma};
 ghost use Rattle.rest_routes.specs.Place.{place_view};
 ghost use Rattle.rest_routes.specs.Media.{accepts, holds_binary, holds_general, is_acceptable, is_accepted, is_binary, is_described, is_general, is_semicolon, is_supported, is_wildcard, names};
@@ -9,11 +9,18 @@ use gate_io::Items;
 use http_conn::Request;
 use http_head::{first_member, is_word};
 
+fn semicolon_in(member: &[u8]) -> Option<usize>
+    ensures place { result ≡ position is_semicolon member.now }
+    ensures within { IfSome result (λ i. i < length member.now) }
+{
+    member.iter().position(|b| *b == b';')
+}
+
 /// The type that a member names, before its parameters.
 fn type_in(member: &[u8]) -> &[u8]
     ensures { result.now ≡ before_first is_semicolon member.now }
 {
-    match member.iter().position(|b| *b == b';') {
+    match semicolon_in(member) {
         Some(place) => &member[..place],
         None => member,
     }
@@ -78,7 +85,7 @@ fn accepts(records: bool, accept: &Option<Items<u8>>) -> bool
 
 /// The reply of the place is of a type that the request accepts.
 pub fn is_acceptable(place: Place<'_>, request: &Request) -> bool
-    ensures { result ≡ is_acceptable (place_view place) request.now.accept }
+    ensures { result ≡ is_acceptable (place_view place.entry) request.now.accept }
 {
     match place {
         Place::Instance(_, _, Ask::Records) => accepts(true, &request.accept),
@@ -112,7 +119,7 @@ fn is_described(body: &[u8], content_type: &Option<Items<u8>>) -> bool
 
 /// The place reads a body of the type that the request names, and in no encoding.
 pub fn is_supported(place: Place<'_>, request: &Request) -> bool
-    ensures { result ≡ is_supported (place_view place) request.now }
+    ensures { result ≡ is_supported (place_view place.entry) request.now }
 {
     match place {
         Place::Topic(_) => !request.encoded && holds_binary(&request.content_type),

@@ -26,7 +26,11 @@ fn status_of(request: &Request) -> u32 {
     if !is_acceptable(place, request) {
         return 406;
     }
-    if is_supported(place, request) { 200 } else { 415 }
+    if is_supported(place, request) {
+        200
+    } else {
+        415
+    }
 }
 
 fn accepting(alloc: Global, line: (&str, &str), accept: &str) -> Result<u32, Fail> {
@@ -64,7 +68,11 @@ const ACCEPTS: [((&str, &str), &str, u32); 20] = [
     (DELETE, "text/html;application/json", 406),
     (DELETE, "application/vnd.kafka.binary.v2+json", 406),
     (RECORDS, "application/vnd.kafka.binary.v2+json", 200),
-    (RECORDS, "text/html, Application/vnd.kafka.binary.v2+json;q=1", 200),
+    (
+        RECORDS,
+        "text/html, Application/vnd.kafka.binary.v2+json;q=1",
+        200,
+    ),
     (RECORDS, "application/vnd.kafka.json.v2+json", 406),
     (RECORDS, "application/vnd.kafka.v2+json", 200),
 ];
@@ -93,7 +101,12 @@ fn types_are(
 
 const TYPES: [((&str, &str), &str, &str, u32); 17] = [
     (PRODUCE, BINARY, "{}", 200),
-    (PRODUCE, "Application/VND.kafka.binary.v2+json ; q=1", "{}", 200),
+    (
+        PRODUCE,
+        "Application/VND.kafka.binary.v2+json ; q=1",
+        "{}",
+        200,
+    ),
     (PRODUCE, "", "{}", 415),
     (PRODUCE, "text/plain", "{}", 415),
     (PRODUCE, "application/json", "{}", 415),

@@ -34,11 +34,7 @@ fn told(alloc: Global, method: &str, path: &str) -> Result<String, Fail> {
 }
 
 /// Each method and path has the place beside them.
-fn places_are(
-    rt: &impl Abort,
-    alloc: Global,
-    cases: &[(&str, &str, &str)],
-) -> Result<(), Fail> {
+fn places_are(rt: &impl Abort, alloc: Global, cases: &[(&str, &str, &str)]) -> Result<(), Fail> {
     for (place, (method, path, want)) in cases.iter().enumerate() {
         let text = told(alloc, method, path)?;
         assert_eq!(rt; text.as_str(), *want, "case {place}");
@@ -75,11 +71,7 @@ fn finds_each_place(rt: HostRuntime) -> Result<(), Fail> {
 }
 
 /// No method and path here has a place.
-fn places_are_none(
-    rt: &impl Abort,
-    alloc: Global,
-    cases: &[(&str, &str)],
-) -> Result<(), Fail> {
+fn places_are_none(rt: &impl Abort, alloc: Global, cases: &[(&str, &str)]) -> Result<(), Fail> {
     for (place, (method, path)) in cases.iter().enumerate() {
         let text = told(alloc, method, path)?;
         assert_eq!(rt; text.as_str(), "none", "case {place}");
