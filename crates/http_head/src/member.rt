@@ -46,7 +46,7 @@ fn is_same(text: &[u8], word: &[u8]) -> bool
 }
 
 /// The text is this word, between spaces and tabs.
-fn is_word(word: &[u8], text: &[u8]) -> bool
+pub fn is_word(word: &[u8], text: &[u8]) -> bool
     ensures { result ≡ is_word word.now text.now }
 {
     let rest = behind_blanks(text);
@@ -71,7 +71,7 @@ fn comma_place(value: &[u8]) -> usize
 }
 
 /// The first member and those behind its comma. None where there is no comma.
-fn first_member(value: &[u8]) -> Option<(&[u8], &[u8])>
+pub fn first_member(value: &[u8]) -> Option<(&[u8], &[u8])>
     ensures parts { MatchOption result (slice_split is_comma value.now ≡ value.now ∷ []) (λ p. slice_split is_comma value.now ≡ p.0.now ∷ slice_split is_comma p.1.now) }
     ensures shorter { MatchOption result (slice_split is_comma value.now ≡ value.now ∷ []) (λ p. length p.1.now < length value.now) }
 {

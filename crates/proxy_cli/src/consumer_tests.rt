@@ -426,11 +426,21 @@ const TOO_FEW: [Exchange<'static>; 4] = [
     },
 ];
 
+/// The type of the body of a request with this line.
+fn body_type(line: &str) -> &'static str {
+    if line.starts_with("POST /topics/") {
+        BINARY
+    } else {
+        PLAIN
+    }
+}
+
 fn push_request(alloc: Global, text: &mut String, one: &Exchange<'_>) -> Result<(), Fail> {
     let (line, body) = (one.line, one.body);
     let size = body.len();
+    let media = body_type(line);
     let request = format!(in alloc;
-        "{line} HTTP/1.1\r\nHost: p\r\nContent-Type: {BINARY}\r\nContent-Length: {size}\r\n\r\n{body}"
+        "{line} HTTP/1.1\r\nHost: p\r\nContent-Type: {media}\r\nContent-Length: {size}\r\n\r\n{body}"
     )?;
     text.push_str(request.as_str())?;
     Ok(())

@@ -1,5 +1,5 @@
 -- From two readings of one request to their equality.
-use Rattle.std.proofs.Common.{◌≡◌, ◌∙◌, ℕ, List, [], ◌∷◌, sym, ap, refl, Option, Some, None, Result}
+use Rattle.std.proofs.Common.{◌≡◌, ◌∙◌, ℕ, List, [], ◌∷◌, sym, ap, refl, Option, Some, None, Result, Bool, true, false}
 use Rattle.serde_json.specs.Data.{Data}
 use Rattle.model.specs.Log.{TopicPart}
 use Rattle.model.specs.World.{Settings}
@@ -9,10 +9,11 @@ use Rattle.rest_calls.specs.Json.{IsJson}
 use Rattle.rest_calls.specs.Body.{produced_by}
 use Rattle.rest_calls.specs.Create.{created_by}
 use Rattle.rest_calls.specs.Assign.{assigned_by}
+use Rattle.rest_routes.specs.Media.{is_acceptable, is_supported}
 use Rattle.rest_routes.specs.Place.{Place, Topic, Group, Instance, place_of}
 use Rattle.rest_routes.specs.declared.place.Ask.TheVariants.{Delete, Assign, Assignments, Records}
 use Rattle.rest_calls.specs.Views.{key_in}
-use Rattle.rest_calls.specs.Reading.{Read, Reading, ReadingAt, ReadingIn, ProducedAs, CreatedAs, AssignedAs, produce_read, create_read, assign_read}
+use Rattle.rest_calls.specs.Reading.{Read, Reading, ReadingAt, ReadingIn, Unless, ProducedAs, CreatedAs, AssignedAs, produce_read, create_read, assign_read}
 
 -- a body is one value of JSON, or none
 pub one_value : (body : List ℕ) (x y : Option Data) → IsJson body x → IsJson body y → x ≡ y
@@ -39,9 +40,15 @@ one_at (Instance group name Assign) request a b x y = x.2 ∙ ap (assign_read (k
 one_at (Instance group name Assignments) request a b x y = x ∙ sym y
 one_at (Instance group name Records) request a b x y = x ∙ sym y
 
+one_unless : (is : Bool) (code : ℕ) (says : Read → Type 0) → ((a b : Read) → says a → says b → a ≡ b) → (a b : Read) → Unless is code says a → Unless is code says b → a ≡ b
+one_unless true code says one a b x y = one a b x y
+one_unless false code says one a b x y = x ∙ sym y
+
 one_in : (place : Option Place) (request : Request) (a b : Read) → ReadingIn place request a → ReadingIn place request b → a ≡ b
 one_in None request a b x y = x ∙ sym y
-one_in (Some place) request a b x y = one_at place request a b x y
+one_in (Some place) request a b x y =
+    one_unless (is_acceptable place request.accept) 406 (λ read. Unless (is_supported place request) 415 (ReadingAt place request) read)
+    (one_unless (is_supported place request) 415 (ReadingAt place request) (one_at place request)) a b x y
 
 pub one_reading : (request : Request) (a b : Read) → Reading request a → Reading request b → a ≡ b
 one_reading request a b x y = one_in (place_of request) request a b x y

@@ -1,5 +1,5 @@
 -- What a request asks for, or why it is refused: a produce of binary records, and the calls of one consumer (Confluent REST Proxy API v2).
-use Rattle.std.specs.Prelude.{◌≡◌, ℕ, ◌⊎◌, List, [], ◌∷◌, Option, Some, None, Result, Ok, Err}
+use Rattle.std.specs.Prelude.{◌≡◌, ℕ, ◌⊎◌, List, [], ◌∷◌, Option, Some, None, Result, Ok, Err, Bool, true, false}
 use Rattle.serde_json.specs.Data.{Data}
 use Rattle.model.specs.Log.{TopicPart}
 use Rattle.model.specs.World.{Key, Settings}
@@ -16,6 +16,7 @@ use Rattle.rest_calls.specs.Json.{IsJson}
 use Rattle.rest_calls.specs.Body.{produced_by}
 use Rattle.rest_calls.specs.Create.{created_by, usual_settings}
 use Rattle.rest_calls.specs.Assign.{assigned_by}
+use Rattle.rest_routes.specs.Media.{is_acceptable, is_supported}
 use Rattle.rest_routes.specs.Query.{limits_of}
 use Rattle.rest_routes.specs.declared.query.Limits.{Limits}
 use Rattle.rest_routes.specs.declared.place.Ask.TheVariants.{Delete, Assign, Assignments, Records}
@@ -75,10 +76,17 @@ ReadingAt (Instance group name Assign) request read = (parts : Option (List Topi
 ReadingAt (Instance group name Assignments) request read = read ≡ Calls (Of (key_in group name) AsksAssignments)
 ReadingAt (Instance group name Records) request read = read ≡ records_read (key_in group name) (limits_of request.query)
 
--- a request that has no place is refused with 404
+-- what is said where this is so, and a refusal with the code where it isn't
+abbrev pub Unless : Bool → ℕ → (Read → Type 0) → Read → Type 0
+Unless true code says read = says read
+Unless false code says read = read ≡ Refuses code
+
+-- A request that has no place is refused with 404, one whose reply it doesn't accept with 406, and one whose body is of another type
+-- with 415, in this order.
 abbrev pub ReadingIn : Option Place → Request → Read → Type 0
 ReadingIn None request read = read ≡ Refuses 404
-ReadingIn (Some place) request read = ReadingAt place request read
+ReadingIn (Some place) request read =
+    Unless (is_acceptable place request.accept) 406 (Unless (is_supported place request) 415 (ReadingAt place request)) read
 
 -- what a request reads as
 abbrev pub Reading : Request → Read → Type 0

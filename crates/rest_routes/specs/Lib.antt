@@ -1,3 +1,4 @@
+pub mod Media
 pub mod Path
 pub mod Place
 pub mod Query

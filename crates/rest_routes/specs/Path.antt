@@ -1,5 +1,5 @@
--- The topic that a request to produce binary records names (Confluent REST Proxy API v2, POST /topics/{topic}).
-use Rattle.std.specs.Prelude.{ℕ, Bool, false, ◌&&◌, ◌||◌, ◌==◌, List, length, take, drop, Option, Some, None, option_and_then, if◌then◌else◌, nat_lt, nat_le, codes}
+-- The topic that a produce names (Confluent REST Proxy API v2, POST /topics/{topic}).
+use Rattle.std.specs.Prelude.{ℕ, Bool, ◌&&◌, ◌||◌, ◌==◌, List, length, take, drop, Option, Some, None, option_and_then, if◌then◌else◌, nat_lt, nat_le, codes}
 use Rattle.std.specs.List.{list_all}
 use Rattle.std.specs.Str.{bytes_eq}
 use Rattle.std.specs.Char.{is_ascii_alphanumeric}
@@ -22,13 +22,6 @@ abbrev pub topic_in : List ℕ → Option (List ℕ)
 topic_in path =
     option_and_then (λ name. if is_topic_name name then Some name else None) (after_topics path)
 
--- the media type of binary records, written exactly so
-abbrev pub is_binary : Option (List ℕ) → Bool
-is_binary None = false
-is_binary (Some name) = bytes_eq name (codes "application/vnd.kafka.binary.v2+json")
-
--- the topic of a POST of binary records
+-- the topic of a produce
 unfoldable pub topic_of : Request → Option (List ℕ)
-topic_of request =
-    if bytes_eq request.method (codes "POST") && is_binary request.content_type
-    then topic_in request.path else None
+topic_of request = if bytes_eq request.method (codes "POST") then topic_in request.path else None

@@ -1,11 +1,8 @@
 ghost use Rattle.std.specs.Prelude.{◌≡◌, option_map, codes};
 ghost use Rattle.std.specs.List.{list_all};
-ghost use Rattle.rest_routes.specs.Path.{is_name_byte, is_topic_name, after_topics, topic_in, is_binary, topic_of};
+ghost use Rattle.rest_routes.specs.Path.{is_name_byte, is_topic_name, after_topics, topic_in, topic_of};
 
-use gate_io::Items;
 use http_conn::Request;
-
-const BINARY: &[u8] = b"application/vnd.kafka.binary.v2+json";
 
 fn is_name_byte(byte: u8) -> bool
     ensures { result ≡ is_name_byte byte }
@@ -46,21 +43,12 @@ fn topic_in(path: &str) -> Option<&str>
     }
 }
 
-fn is_binary(content_type: &Option<Items<u8>>) -> bool
-    ensures { result ≡ is_binary content_type.now }
-{
-    match content_type {
-        Some(name) => name.as_slice() == BINARY,
-        None => false,
-    }
-}
-
-/// The topic of a produce of binary records. None where the request is of another kind.
+/// The topic of a produce. None where the request is of another kind.
 #[tactic(auto, unfolding(crate::specs::Path::topic_of))]
 pub(crate) fn topic_of(request: &Request) -> Option<&str>
     ensures { option_map (λ n. n.now) result ≡ topic_of request.now }
 {
-    if request.method.as_str() == "POST" && is_binary(&request.content_type) {
+    if request.method.as_str() == "POST" {
         topic_in(request.path.as_str())
     } else {
         None

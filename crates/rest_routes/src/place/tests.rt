@@ -1,39 +1,9 @@
 use super::{Ask, Place, place_of};
 use crate::path::is_topic_name;
-use gate_io::{Items, Text};
-use http::Method;
-use http_conn::Request;
+use crate::sample::request_of;
 use std::alloc::{AllocError, Global};
 use std::process::Abort;
 use std::test::Fail;
-
-const BINARY: &str = "application/vnd.kafka.binary.v2+json";
-
-/// A content type, or none where it is empty.
-fn media_of(alloc: Global, media: &str) -> Result<Option<Items<u8>>, AllocError> {
-    if media.is_empty() {
-        return Ok(None);
-    }
-    Ok(Some(Items::from_slice(alloc, media.as_bytes())?))
-}
-
-/// A request without a query and a body.
-fn request_of(alloc: Global, method: &str, path: &str, media: &str) -> Result<Request, Fail> {
-    let method = Method::from_bytes(alloc, method.as_bytes())?;
-    let path = Text::from_str(alloc, path)?;
-    let query = Text::from_str(alloc, "")?;
-    let content_type = media_of(alloc, media)?;
-    Ok(Request {
-        method,
-        path,
-        query,
-        accept: None,
-        content_type,
-        encoded: false,
-        close: false,
-        body: Items::from_slice(alloc, b"")?,
-    })
-}
 
 fn name_of(ask: Ask) -> &'static str {
     match ask {
@@ -58,46 +28,39 @@ fn shown(alloc: Global, place: Option<Place<'_>>) -> Result<String, AllocError> 
 }
 
 /// The place of such a request, as a text.
-fn told(alloc: Global, method: &str, path: &str, media: &str) -> Result<String, Fail> {
-    let request = request_of(alloc, method, path, media)?;
+fn told(alloc: Global, method: &str, path: &str) -> Result<String, Fail> {
+    let request = request_of(alloc, method, path, "", "", "")?;
     Ok(shown(alloc, place_of(&request))?)
 }
 
-/// Each method, path and content type has the place beside them.
-fn places_are(
-    rt: &impl Abort,
-    alloc: Global,
-    cases: &[(&str, &str, &str, &str)],
-) -> Result<(), Fail> {
-    for (place, (method, path, media, want)) in cases.iter().enumerate() {
-        let text = told(alloc, method, path, media)?;
+/// Each method and path has the place beside them.
+fn places_are(rt: &impl Abort, alloc: Global, cases: &[(&str, &str, &str)]) -> Result<(), Fail> {
+    for (place, (method, path, want)) in cases.iter().enumerate() {
+        let text = told(alloc, method, path)?;
         assert_eq!(rt; text.as_str(), *want, "case {place}");
     }
     Ok(())
 }
 
-const PLACES: [(&str, &str, &str, &str); 8] = [
-    ("POST", "/topics/a.b_c-9Z", BINARY, "topic a.b_c-9Z"),
-    ("POST", "/topics/.", BINARY, "topic ."),
-    ("POST", "/topics/..", BINARY, "topic .."),
-    ("POST", "/consumers/g", "", "group g"),
-    ("DELETE", "/consumers/g/instances/c1", "", "delete g c1"),
+const PLACES: [(&str, &str, &str); 8] = [
+    ("POST", "/topics/a.b_c-9Z", "topic a.b_c-9Z"),
+    ("POST", "/topics/.", "topic ."),
+    ("POST", "/topics/..", "topic .."),
+    ("POST", "/consumers/g", "group g"),
+    ("DELETE", "/consumers/g/instances/c1", "delete g c1"),
     (
         "POST",
         "/consumers/g/instances/c1/assignments",
-        "",
         "assign g c1",
     ),
     (
         "GET",
         "/consumers/g/instances/c1/assignments",
-        "",
         "assignments g c1",
     ),
     (
         "GET",
         "/consumers/a.b_c-9Z/instances/-/records",
-        "",
         "records a.b_c-9Z -",
     ),
 ];
@@ -107,74 +70,56 @@ fn finds_each_place(rt: HostRuntime) -> Result<(), Fail> {
     places_are(&rt, rt.alloc(), &PLACES)
 }
 
-/// No method, path and content type here has a place.
-fn places_are_none(
-    rt: &impl Abort,
-    alloc: Global,
-    cases: &[(&str, &str, &str)],
-) -> Result<(), Fail> {
-    for (place, (method, path, media)) in cases.iter().enumerate() {
-        let text = told(alloc, method, path, media)?;
+/// No method and path here has a place.
+fn places_are_none(rt: &impl Abort, alloc: Global, cases: &[(&str, &str)]) -> Result<(), Fail> {
+    for (place, (method, path)) in cases.iter().enumerate() {
+        let text = told(alloc, method, path)?;
         assert_eq!(rt; text.as_str(), "none", "case {place}");
     }
     Ok(())
 }
 
-const OTHER_KINDS: [(&str, &str, &str); 20] = [
-    ("GET", "/topics/t", BINARY),
-    ("PUT", "/topics/t", BINARY),
-    ("post", "/topics/t", BINARY),
-    ("POST", "", BINARY),
-    ("POST", "/", BINARY),
-    ("POST", "/topics", BINARY),
-    ("POST", "/topics/", BINARY),
-    ("POST", "/topics/t/", BINARY),
-    ("POST", "/topics/t/partitions/0", BINARY),
-    ("POST", "/topics/%74", BINARY),
-    ("POST", "/topics/a b", BINARY),
-    ("POST", "/topics/\u{e9}", BINARY),
-    ("POST", "/Topics/t", BINARY),
-    ("POST", "topics/t", BINARY),
-    ("POST", "/topics/t", ""),
-    ("POST", "/topics/t", "application/vnd.kafka.json.v2+json"),
-    ("POST", "/topics/t", "Application/vnd.kafka.binary.v2+json"),
-    (
-        "POST",
-        "/topics/t",
-        "application/vnd.kafka.binary.v2+json;q=1",
-    ),
-    ("POST", "/topics/t", "application/vnd.kafka.binary.v2+json "),
-    (
-        "POST",
-        "/topics/t",
-        "application/vnd.kafka.binary.v2+json,application/vnd.kafka.binary.v2+json",
-    ),
+const OTHER_KINDS: [(&str, &str); 14] = [
+    ("GET", "/topics/t"),
+    ("PUT", "/topics/t"),
+    ("post", "/topics/t"),
+    ("POST", ""),
+    ("POST", "/"),
+    ("POST", "/topics"),
+    ("POST", "/topics/"),
+    ("POST", "/topics/t/"),
+    ("POST", "/topics/t/partitions/0"),
+    ("POST", "/topics/%74"),
+    ("POST", "/topics/a b"),
+    ("POST", "/topics/\u{e9}"),
+    ("POST", "/Topics/t"),
+    ("POST", "topics/t"),
 ];
 
 #[test]
-fn finds_no_place_for_another_kind_of_produce(rt: HostRuntime) -> Result<(), Fail> {
+fn finds_no_place_for_another_method_or_path(rt: HostRuntime) -> Result<(), Fail> {
     places_are_none(&rt, rt.alloc(), &OTHER_KINDS)
 }
 
-const OTHER_PLACES: [(&str, &str, &str); 18] = [
-    ("GET", "/consumers/g", ""),
-    ("post", "/consumers/g", ""),
-    ("POST", "/consumers/", ""),
-    ("POST", "/consumers/g/", ""),
-    ("POST", "/consumers/%67", ""),
-    ("POST", "/consumers/a\u{e9}", ""),
-    ("POST", "consumers/g", ""),
-    ("DELETE", "/consumers/g/instances/", ""),
-    ("DELETE", "/consumers//instances/c1", ""),
-    ("DELETE", "/consumers/g/instances/c+1", ""),
-    ("DELETE", "/consumers/g/instances/c1/assignments", ""),
-    ("POST", "/consumers/g/instances/c1", ""),
-    ("PUT", "/consumers/g/instances/c1/assignments", ""),
-    ("POST", "/consumers/g/instances/c1/records", ""),
-    ("GET", "/consumers/g/instances/c1/records/", ""),
-    ("GET", "/consumers/g/instances/c1/offsets", ""),
-    ("GET", "/consumers/g/x/instances/c1/records", ""),
-    ("GET", "/topics", ""),
+const OTHER_PLACES: [(&str, &str); 18] = [
+    ("GET", "/consumers/g"),
+    ("post", "/consumers/g"),
+    ("POST", "/consumers/"),
+    ("POST", "/consumers/g/"),
+    ("POST", "/consumers/%67"),
+    ("POST", "/consumers/a\u{e9}"),
+    ("POST", "consumers/g"),
+    ("DELETE", "/consumers/g/instances/"),
+    ("DELETE", "/consumers//instances/c1"),
+    ("DELETE", "/consumers/g/instances/c+1"),
+    ("DELETE", "/consumers/g/instances/c1/assignments"),
+    ("POST", "/consumers/g/instances/c1"),
+    ("PUT", "/consumers/g/instances/c1/assignments"),
+    ("POST", "/consumers/g/instances/c1/records"),
+    ("GET", "/consumers/g/instances/c1/records/"),
+    ("GET", "/consumers/g/instances/c1/offsets"),
+    ("GET", "/consumers/g/x/instances/c1/records"),
+    ("GET", "/topics"),
 ];
 
 #[test]
