@@ -12,7 +12,7 @@ use Rattle.broker_link.specs.Causes.{Counts}
 use Rattle.broker_link.specs.Stands.{Goes, Stand}
 use Rattle.instance.specs.Views.{Live, events_in, said_in}
 use Rattle.instance.specs.declared.event.Outcome.{Outcome}
-use Rattle.instance.specs.Acting.{ActsSo}
+use Rattle.consumer_state.specs.Acting.{ActsSo}
 
 -- the instance that stood there did its call, and is put there again
 pub record Does (found : Option Live) (PutsBack : Option Live → Type 0) (call : Call) (now round : ℕ) (tells plain : Type 0) (before after : Counts) (a : Log) (events : List (Key ⊎ Event)) (said : Option Response) (b : Log) : Type 0 where

@@ -8,19 +8,17 @@ ghost use Rattle.model.specs.Entry.Call.{Of};
 ghost use Rattle.model.specs.Fixed.{SameCommits};
 ghost use Rattle.model.specs.Noted.{EndsInLook};
 ghost use Rattle.rest_calls.specs.Views.{asked_of, key_in, settings_of};
-ghost use Rattle.instance.specs.Acting.{ActsSo};
+ghost use Rattle.consumer_state.specs.Acting.{ActsSo};
 ghost use Rattle.instance.specs.Handed.{LooksAtGiven};
 ghost use Rattle.rest_calls.specs.Responses.{response_in};
 ghost use Rattle.instance.specs.Telling.{TellsSo};
-ghost use Rattle.instance.specs.Views.{at_in, events_in, said_in};
+ghost use Rattle.consumer_state.specs.Views.{at_in};
+ghost use Rattle.instance.specs.Views.{events_in, said_in};
 
 use crate::Outcome;
-use crate::assign::assign;
-use crate::consumer::Consumer;
-use crate::failure::refused;
-use crate::listing::listing;
 use crate::look::look;
 use broker_link::Link;
+use consumer_state::{Consumer, assign, listing, refused};
 use gate_io::{Items, Text, Want};
 use rest_calls::{Call, Settings};
 use rest_codes::Reply;
@@ -36,7 +34,8 @@ pub struct Instance {
 }
 
 impl Model for Instance {
-    ghost use Rattle.instance.specs.Views.{IsSound, Live, consumer_of};
+    ghost use Rattle.consumer_state.specs.Views.{IsSound, consumer_of};
+    ghost use Rattle.instance.specs.Views.{Live};
 
     ghost Value = { Live };
 

@@ -16,20 +16,21 @@ ghost use Rattle.model.specs.Walk.{bytes_of, turned, unwalked, walk};
 ghost use Rattle.model.specs.World.Format.{Binary};
 ghost use Rattle.rest_calls.specs.Responses.{response_in};
 ghost use Rattle.instance.specs.declared.event.Event.TheVariants.{Looked};
-ghost use Rattle.instance.specs.Acting.{ActsSo, forms};
+ghost use Rattle.consumer_state.specs.Acting.{ActsSo, forms};
 ghost use Rattle.instance.specs.Ending.{IsEnded, IsKept, IsOver};
 ghost use Rattle.instance.specs.Handed.{LooksAtGiven};
 ghost use Rattle.instance.specs.Lots.{HasOffsets, IsPick, lots_of, rule_of, seen};
-ghost use Rattle.instance.specs.Views.{IsSound, consumer_of, events_in, place_of, said_in};
+ghost use Rattle.consumer_state.specs.Views.{IsSound, consumer_of, place_of};
+ghost use Rattle.instance.specs.Views.{events_in, said_in};
 
-use crate::consumer::Consumer;
-use crate::failure::link_failure;
 use crate::fetching::{all_inside, bytes_for, fetch_from};
 use crate::items::shown_text;
+use crate::moves::move_behind;
 use crate::resets::set_back;
 use crate::walk::{Lots, Walk, go_round};
-use crate::{Event, Outcome, Place};
+use crate::{Event, Outcome};
 use broker_link::{Edge, Fetched, Link, LinkNo};
+use consumer_state::{Consumer, Place, link_failure};
 use gate_io::{Items, Text};
 use rest_codes::{Media, Reply};
 use std::alloc::{AllocError, Global};
@@ -146,7 +147,7 @@ fn settle(
     }
     let text = text_of(consumer, alloc, fetched, &walk)?;
     events.push(Event::Looked(round))?;
-    consumer.move_behind(fetched, walk.picks.as_slice());
+    move_behind(consumer, fetched, walk.picks.as_slice());
     Ok(Some(Reply::Body {
         media: Media::Binary,
         text,
