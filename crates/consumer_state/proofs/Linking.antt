@@ -26,6 +26,7 @@ goes_nowhere a = record {
   plainly = λ p. p;
   turning = λ t. t;
   alone = λ p. refl;
+  asked = refl;
 }
 
 -- one call after another
@@ -37,6 +38,7 @@ goes_on a b c one two = record {
   plainly = λ p. two.plainly (one.plainly p);
   turning = λ t. two.turning (one.turning t);
   alone = λ p. two.alone (one.plainly p) ∙ one.alone p;
+  asked = two.asked ∙ one.asked;
 }
   where
     both : (x y z : Log) → Keeps x y × NoneAdded x y × SameCommits x y → Keeps y z × NoneAdded y z × SameCommits y z → Keeps x z × NoneAdded x z × SameCommits x z

@@ -12,7 +12,7 @@ use Rattle.broker_link.specs.Stands.{Stand}
 use Rattle.consumer_state.specs.declared.topics.AssignNo.{AssignNo}
 use Rattle.consumer_state.specs.declared.topics.AssignNo.TheVariants.{NoTopic, NoPartition, Failed}
 
--- The link goes on telling and being plain as it did; its log is kept, with nothing committed and no row but those of others.
+-- The link goes on telling and being plain as it did, and was asked no produce; its log is kept, with nothing committed and no row but those of others.
 pub record GoesOn (a b : Stand) : Type 0 where
   pub telling : a.tells → b.tells
   pub keeps : a.tells → Keeps a.log b.log × NoneAdded a.log b.log × SameCommits a.log b.log
@@ -20,6 +20,7 @@ pub record GoesOn (a b : Stand) : Type 0 where
   pub plainly : a.plain → b.plain
   pub turning : a.in_turn → b.in_turn
   pub alone : a.plain → (let l = b.log in l.others) ≡ (let l = a.log in l.others)
+  pub asked : b.produces ≡ a.produces
 
 -- the reply to an Assign that isn't done
 abbrev pub refusal_of : AssignNo → Reply

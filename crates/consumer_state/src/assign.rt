@@ -58,7 +58,7 @@ fn refusal(alloc: Global, no: AssignNo) -> Reply
 }
 
 /// Assigns these partitions, or leaves the assignment as it was. An empty list clears it.
-pub fn assign<L: Link>(
+pub fn assign_parts<L: Link>(
     consumer: &mut Consumer,
     alloc: Global,
     link: &mut L,

@@ -13,10 +13,10 @@ mod place;
 mod quote;
 mod topics;
 
-pub use assign::assign;
+pub use assign::assign_parts;
 pub use consumer::Consumer;
 pub use creation::made;
 pub use failure::{link_failure, refused};
-pub use listing::listing;
+pub use listing::listed;
 pub use place::Place;
 pub use quote::quoted_text;

@@ -47,7 +47,7 @@ fn places_text(alloc: Global, places: &[Place]) -> Result<String, AllocError>
 }
 
 /// The assigned partitions.
-pub fn listing(alloc: Global, places: &[Place]) -> Reply
+pub fn listed(alloc: Global, places: &[Place]) -> Reply
     ensures says { SaysOrWant (Listed (map at_in places.now)) result }
 {
     match places_text(alloc, places) {

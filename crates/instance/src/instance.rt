@@ -1,16 +1,15 @@
 ghost use Rattle.std.specs.Prelude.{◌≡◌, ◌≢◌, ◌<◌, ◌*◌, ◌^◌, ℕ, List, [], IfOk, Option, None, Some, map};
-ghost use Rattle.broker_link.specs.Stands.{Goes};
 ghost use Rattle.model.specs.World.{IsConsumer, fresh, is_key};
 ghost use Rattle.model.specs.World.Mode.{ByTopics};
 ghost use Rattle.model.specs.Entry.{Act};
 ghost use Rattle.model.specs.Entry.Act.{Records};
 ghost use Rattle.model.specs.Entry.Call.{Of};
-ghost use Rattle.model.specs.Fixed.{SameCommits};
 ghost use Rattle.model.specs.Noted.{EndsInLook};
 ghost use Rattle.rest_calls.specs.Views.{asked_of, key_in, settings_of};
 ghost use Rattle.consumer_state.specs.Acting.{ActsSo};
 ghost use Rattle.instance.specs.Handed.{LooksAtGiven};
 ghost use Rattle.rest_calls.specs.Responses.{response_in};
+ghost use Rattle.instance.specs.Passing.{Consults};
 ghost use Rattle.instance.specs.Telling.{TellsSo};
 ghost use Rattle.consumer_state.specs.Views.{at_in};
 ghost use Rattle.instance.specs.Views.{events_in, said_in};
@@ -18,7 +17,7 @@ ghost use Rattle.instance.specs.Views.{events_in, said_in};
 use crate::Outcome;
 use crate::look::look;
 use broker_link::Link;
-use consumer_state::{Consumer, assign, listing, refused};
+use consumer_state::{Consumer, assign_parts, listed, refused};
 use gate_io::{Items, Text, Want};
 use rest_calls::{Call, Settings};
 use rest_codes::Reply;
@@ -63,7 +62,7 @@ fn told(alloc: Global, consumer: &Consumer, call: &Call) -> Reply
     match call {
         Call::Create { .. } => refused(alloc, 40902),
         Call::Delete { .. } => Reply::Empty,
-        Call::Assignments { .. } => listing(alloc, consumer.assignment.as_slice()),
+        Call::Assignments { .. } => listed(alloc, consumer.assignment.as_slice()),
         _ => Reply::Want,
     }
 }
@@ -135,8 +134,7 @@ impl Instance {
         ensures looks { result.reply ≡ None → EndsInLook (events_in result) round }
         ensures sound { IsConsumer self.new.consumer }
 
-        ensures goes { Goes (L.stand link.old) (L.stand link.new) }
-        ensures commits { (L.stand link.old).tells → SameCommits (L.stand link.old).log (L.stand link.new).log }
+        ensures consults { Consults (L.stand link.old) (L.stand link.new) }
     {
         match call {
             Call::Records {
@@ -154,7 +152,7 @@ impl Instance {
             ),
             Call::Assign { parts, .. } => answered(
                 alloc,
-                assign(
+                assign_parts(
                     &mut self.consumer,
                     alloc,
                     link,

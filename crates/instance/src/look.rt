@@ -1,16 +1,14 @@
 ghost use Rattle.std.specs.Prelude.{◌≡◌, ◌*◌, ◌≤◌, ◌^◌, min, None, ◌++◌, [], ◌∷◌, ◌<◌, All, IfOk, IfErr, OnErr, List, ℕ, length, map, option_map};
 ghost use Rattle.model.specs.Log.{IsLog};
-ghost use Rattle.broker_link.specs.Stands.{Goes};
 ghost use Rattle.model.specs.World.{IsInOrder, IsLow, Key};
 ghost use Rattle.model.specs.Entry.Act.{Records};
 ghost use Rattle.model.specs.Events.{at_most};
-ghost use Rattle.model.specs.Fixed.{SameCommits};
 ghost use Rattle.model.specs.Noted.{EndsInLook};
 ghost use Rattle.broker_link.specs.Causes.{ComesOf};
 ghost use Rattle.broker_link.specs.Fetching.{edge_view, rows_in};
 ghost use Rattle.broker_link.specs.declared.link.LinkNo.TheVariants.{Want};
 ghost use Rattle.instance.specs.Gathering.{AreGiven, HaveAll, IsHand, SetsBack};
-ghost use Rattle.instance.specs.Passing.{Passes};
+ghost use Rattle.instance.specs.Passing.{Consults, Passes};
 ghost use Rattle.model.specs.Bodies.{array, item_text};
 ghost use Rattle.model.specs.Walk.{bytes_of, turned, unwalked, walk};
 ghost use Rattle.model.specs.World.Format.{Binary};
@@ -246,8 +244,7 @@ pub(crate) fn look<L: Link>(
     ensures waits { result.reply ≡ None → 10 * round < 2 ^ 32 }
     ensures looks { result.reply ≡ None → EndsInLook (events_in result) round }
 
-    ensures goes { Goes (L.stand link.old) (L.stand link.new) }
-    ensures commits { (L.stand link.old).tells → SameCommits (L.stand link.old).log (L.stand link.new).log }
+    ensures consults { Consults (L.stand link.old) (L.stand link.new) }
 {
     consumer.last_use = now;
     let wait = at_most(u64::from(consumer.settings.timeout_ms), timeout);

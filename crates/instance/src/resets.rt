@@ -11,8 +11,8 @@ ghost use Rattle.instance.specs.Gathering.{AreSet, AreTold, EdgesTold, HaveAll, 
 ghost use Rattle.instance.specs.Passing.{Passes};
 ghost use Rattle.consumer_state.specs.Views.{at_in, place_of};
 
-use crate::moves::put_position;
 use crate::Event;
+use crate::moves::put_position;
 use broker_link::{Edge, Fetched, Link, LinkNo};
 use consumer_state::Place;
 use gate_io::{Items, Text};

@@ -9,6 +9,6 @@ use Rattle.instance.proofs.instance.told.Goals as goal
 
 pub returns-in-Assignments : goal.returns-in-Assignments
 returns-in-Assignments c = record {
-  says = subst (λ (call : Call). TellsSo (map at_in c.args.consumer.now.assignment.items) call c.listing.result) (sym c.in-Assignments.is)
-      (subst (λ (l : List CodePlace). SaysOrWant (Listed (map at_in l)) c.listing.result) c.as_slice.ensures.value c.listing.ensures.says);
+  says = subst (λ (call : Call). TellsSo (map at_in c.args.consumer.now.assignment.items) call c.listed.result) (sym c.in-Assignments.is)
+      (subst (λ (l : List CodePlace). SaysOrWant (Listed (map at_in l)) c.listed.result) c.as_slice.ensures.value c.listed.ensures.says);
 }

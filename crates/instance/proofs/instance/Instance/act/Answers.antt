@@ -22,6 +22,5 @@ returns-in_default g c =
       waits = λ none. absurd (cc (none, c.answered-in_default.ensures.some));
       looks = λ none. absurd (cc (none, c.answered-in_default.ensures.some));
       sound = record { order = sound.order; low = sound.low; names = sound.names };
-      goes = goes_nowhere (g.L.Link.stand c.args.link.now);
-      commits = λ t. same a;
+      consults = record { goes = goes_nowhere (g.L.Link.stand c.args.link.now); commits = λ t. same a; asked = refl };
     }
