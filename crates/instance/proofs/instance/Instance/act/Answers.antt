@@ -1,4 +1,4 @@
-use Rattle.std.proofs.Common.{ap}
+use Rattle.std.proofs.Common.{ap, refl}
 use Rattle.model.specs.World.{Key}
 use Rattle.broker_link.proofs.Going.{goes_nowhere}
 use Rattle.instance.specs.Views.{Live}
