@@ -52,11 +52,13 @@ module _ {S K C : Type 0} (left asked : S → Option (List ℕ)) (broken : S →
     output = λ e. (
       command,
       is,
-      run.0,
-      run.1,
-      λ input told.
-          let x = run.2 input told in
-          (x.0, x.1, (x.2.0, x.2.1)),
+      (
+        run.0,
+        run.1,
+        λ input told.
+            let x = run.2 input told in
+            (x.0, x.1, (x.2.0, x.2.1)),
+      ),
     );
     lost = λ e. absurd (omega (arith, e));
     cut = λ e. absurd (omega (arith, e));
@@ -70,7 +72,7 @@ module _ {S K C : Type 0} (left asked : S → Option (List ℕ)) (broken : S →
   }
   command_ran source source2 sink sink2 clock clock2 command is (Err ReadFault) run read write = record {
     output = λ e. absurd (omega (arith, e));
-    lost = λ e. (command, is, run.0, run.1, run.2);
+    lost = λ e. (command, is, run);
     cut = λ e. absurd (omega (arith, e));
     starved = λ e. absurd (omega (arith, e));
     words = λ e. absurd (omega (arith, e));
@@ -83,7 +85,7 @@ module _ {S K C : Type 0} (left asked : S → Option (List ℕ)) (broken : S →
   command_ran source source2 sink sink2 clock clock2 command is (Err (WriteFault n)) run read write = record {
     output = λ e. absurd (omega (arith, e));
     lost = λ e. absurd (omega (arith, e));
-    cut = λ e. (command, is, run.0, run.1, (n, run.2));
+    cut = λ e. (command, is, (run.0, run.1, (n, run.2)));
     starved = λ e. absurd (omega (arith, e));
     words = λ e. absurd (omega (arith, e));
     unread = λ none. absurd (let both : Some command ≡ None = sym is ∙ none in cc);
@@ -96,7 +98,7 @@ module _ {S K C : Type 0} (left asked : S → Option (List ℕ)) (broken : S →
     output = λ e. absurd (omega (arith, e));
     lost = λ e. absurd (omega (arith, e));
     cut = λ e. absurd (omega (arith, e));
-    starved = λ e. inr (command, is, run.0, run.1, run.2);
+    starved = λ e. inr (command, is, run);
     words = λ e. absurd (omega (arith, e));
     unread = λ none. absurd (let both : Some command ≡ None = sym is ∙ none in cc);
     untouched = λ none. absurd (let both : Some command ≡ None = sym is ∙ none in cc);

@@ -23,11 +23,11 @@ module _ (answers : Request → Reply → Type 0) (idle : Type 0) (conn conn2 : 
   cut_reply request Want front closes is sent = absurd sent
 
   -- the response to a bad place
-  pub cut_refusal : (wanted : Reply) (e : ConnNo) → idle → ((all : List ℕ) → Comes conn.held left all → IsBad all wanted)
-      → Sends (OrWant wanted) true before now (Err e) → Turns answers idle conn conn2 left left2 before now close (Err e)
-  cut_refusal wanted (WriteFault n) still bad sent = λ all comes. inr (record { wanted = wanted; bad = bad all comes; said = sent.0; replied = sent.1; cut = sent.2 }, still)
-  cut_refusal wanted ReadFault still bad sent = absurd sent
-  cut_refusal wanted Want still bad sent = absurd sent
+  pub cut_refusal : (reply : Reply) (e : ConnNo) → idle → ((all : List ℕ) → Comes conn.held left all → IsBad all reply)
+      → Sends (OrWant reply) true before now (Err e) → Turns answers idle conn conn2 left left2 before now close (Err e)
+  cut_refusal reply (WriteFault n) still bad sent = λ all comes. inr (record { wanted = reply; bad = bad all comes; said = sent.0; replied = sent.1; cut = sent.2 }, still)
+  cut_refusal reply ReadFault still bad sent = absurd sent
+  cut_refusal reply Want still bad sent = absurd sent
 
   -- a read, or memory for it
   pub failed_read : (e : ConnNo) → idle → now ≡ before → (e ≡ ReadFault → (all : List ℕ) → Comes conn.held left all → Comes conn2.held left2 all × IsWaiting conn2.held)

@@ -1,5 +1,6 @@
 ghost use Rattle.std.specs.Prelude.{◌≡◌, ℕ, Err, map, string_bytes};
 ghost use Rattle.gate_io.specs.Counts.{Rose};
+ghost use Rattle.broker_link.specs.Made.{ArePlans};
 ghost use Rattle.http_conn.specs.declared.request.ConnNo.TheVariants.{WriteFault, ReadFault};
 ghost use Rattle.proxy_cli.specs.Causes.{SinkFailed};
 ghost use Rattle.proxy_cli.specs.Program.{SessionRan};
@@ -66,6 +67,7 @@ fn serve_command<S: Source, K: Sink, C: Clock>(
     sink: &mut K,
     clock: &mut C,
 ) -> Result<Ended, ConnNo>
+    requires { ArePlans (plans_of command.now) }
     ensures serves { IsRunOf command.now (C.tells clock.old) (C.hand clock.old) (C.hand clock.new) (λ answers. Serves S.left S.asked src.old src.new answers (K.held sink.old) (K.held sink.new) result) }
     ensures read { result ≡ Err ReadFault → Rose (S.faults src.old) (S.faults src.new) }
     ensures write { (n : ℕ) → result ≡ Err (WriteFault n) → SinkFailed K.faults K.stalls sink.old sink.new }

@@ -1,4 +1,5 @@
 use Rattle.std.proofs.Common.{◌≡◌, ◌∙◌, ap, sym, subst, refl, [], List, ℕ}
+use Rattle.std.specs.Prelude.{⊤}
 use Rattle.model.specs.Log.{IsLog, shape_of}
 use Rattle.broker_link.specs.Made.{ArePlans, empty_log, no_counts}
 use Rattle.broker_link.specs.Stored.{log_of, log_with}
@@ -15,8 +16,7 @@ use Rattle.proxy_cli.proofs.program.serve_command.Goals as goal
 
 pub returns-in-Err-clause-serves : goal.returns-in-Err-clause-serves
 returns-in-Err-clause-serves g c =
-    let first = first_gateway c.args.command.now (g.C.Clock.hand c.args.clock.now) in
-    (
+    let first = first_gateway c.args.command.now (g.C.Clock.hand c.args.clock.now) in (
       first,
       refl,
       λ input told.
@@ -27,8 +27,7 @@ returns-in-Err-clause-serves g c =
 
 pub returns-in-Err-from_str-clause-serves : goal.returns-in-Err-from_str-clause-serves
 returns-in-Err-from_str-clause-serves g c =
-    let first = first_gateway c.args.command.now (g.C.Clock.hand c.args.clock.now) in
-    (
+    let first = first_gateway c.args.command.now (g.C.Clock.hand c.args.clock.now) in (
       first,
       refl,
       λ input told.
@@ -55,4 +54,4 @@ returns-clause-serves g c =
     let start : first ≡ first_gateway command (g.C.Clock.hand c.args.clock.now) =
     (λ i. record { state = record { world = c.new-desk.ensures.instances i; log = log_is i; hand = g.C.Clock.hand c.args.clock.now; counts = counts_is i }; unnamed = c.new-desk.ensures.unnamed i }) in
     let so = session_answers _ plain (g.C.Clock.tells c.args.clock.now) made.shard.advertise (advertise_of command) first (first_gateway command (g.C.Clock.hand c.args.clock.now)) end name_is start in
-    (end, refl, serves_so _ _ so g.S.Source.left g.S.Source.asked c.args.src.now c.serve_stream.new.src _ _ c.serve_stream.result (c.serve_stream.ensures.serves (tells, is_log)))
+    (end, refl, serves_so _ _ so g.S.Source.left g.S.Source.asked c.args.src.now c.serve_stream.new.source _ _ c.serve_stream.result (c.serve_stream.ensures.serves (tells, is_log)))

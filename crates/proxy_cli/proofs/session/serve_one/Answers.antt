@@ -30,7 +30,7 @@ returns-in-Ok-clause-turn g c = λ known all comes.
 pub returns-in-Ok-Ready-clause-turn : goal.returns-in-Ok-Ready-clause-turn
 returns-in-Ok-Ready-clause-turn g c = λ known.
     let given = rw c.in-Ok-Ready.field-0-is at (c.in-Ok-Ready.ensures.given c.requires) in
-    cut_reply _ _ _ _ _ _ _ _ _ c.in-Ok-Ready.request c.in-Err-exchange.e (λ all comes. let front = given all comes in (front.0, front.2)) _ c.closes-close.ensures (c.in-Err-exchange.ensures.sent known)
+    cut_reply _ _ c.args.connection.now c.exchange.new.connection _ _ _ _ _ c.in-Ok-Ready.request c.in-Err-exchange.e (λ all comes. let front = given all comes in (front.0, front.2)) _ c.closes-close.ensures (c.in-Err-exchange.ensures.sent known)
 
 pub returns-in-Ok-End-clause-turn : goal.returns-in-Ok-End-clause-turn
 returns-in-Ok-End-clause-turn g c = λ known. (
@@ -64,7 +64,4 @@ returns-in-Ok-send-clause-turn g c = λ known. (
 pub returns-in-Ok-Bad-clause-turn : goal.returns-in-Ok-Bad-clause-turn
 returns-in-Ok-Bad-clause-turn g c = λ known.
     let given = rw c.in-Ok-Bad.field-0-is at (c.in-Ok-Bad.ensures.given c.requires) in
-    cut_refusal _ _ _ _ _ _ _ _ _ c.in-Ok-Bad.reply c.in-Err-send.e (refl, refl) (λ all comes. let front = given all comes in front.2.0) c.in-Err-send.ensures.sent
-
-pub returns-in-Err-clause-turn : goal.returns-in-Err-clause-turn
-returns-in-Err-clause-turn g c = λ known. failed_read _ _ _ _ _ _ _ _ _ c.in-Err-next.e (refl, refl) refl (λ e. c.in-Err-next.ensures.lost c.requires (ap (λ (x : ConnNo). Err x) e)) (λ n e. c.in-Err-next.ensures.no_write n (ap (λ (x : ConnNo). Err x) e))
+    cut_refusal _ _ c.args.connection.now c.send.new.connection _ _ _ _ _ c.in-Ok-Bad.reply c.in-Err-send.e (refl, refl) (λ all comes. let front = given all comes in front.2.0) c.in-Err-send.ensures.sent

@@ -24,7 +24,7 @@ loop-count-init g c = record {
       let none = ExchangesAll g.L.Link.stand g.C.Clock.tells g.C.Clock.hand c.args.desk.now c.args.clock.now c.args.desk.now c.args.clock.now in
       subst (λ (k : Conn). Progress g.S.Source.left g.S.Source.asked c.args.source.now c.args.source.now none input (g.K.Sink.held c.args.sink.now) (g.K.Sink.held c.args.sink.now) 0 k) (sym c.in-Ok.ensures)
       (progress_start g.S.Source.left g.S.Source.asked c.args.source.now none input (g.K.Sink.held c.args.sink.now) (exchanges_none g.L.Link.stand g.C.Clock.tells g.C.Clock.hand c.args.desk.now c.args.clock.now) told);
-  counts = (omega arith, omega arith, omega arith);
+  counts = (omega arith, (omega arith, omega arith));
 }
 
 pub loop-count-preserved : goal.loop-count-preserved
@@ -43,7 +43,7 @@ loop-count-preserved g c =
           (before.progress known input told)
           (exchanges_more g.L.Link.stand g.C.Clock.tells g.C.Clock.hand c.args.desk.now c.loop-count.desk c.serve_one.new.desk c.args.clock.now c.loop-count.clock c.serve_one.new.clock before.goes.0 before.goes.1.plainly before.goes.2)
           (λ all comes. turn all comes) said.patient refl;
-      counts = (omega (arith, before.counts.0, said.counts.0), omega (arith, before.counts.1.0, said.counts.1.0), omega (arith, before.counts.1.1, said.counts.1.1));
+      counts = (omega (arith, before.counts.0, said.counts.0), (omega (arith, before.counts.1.0, said.counts.1.0), omega (arith, before.counts.1.1, said.counts.1.1)));
     }
 
 pub returns-in-Ok-Some-clause-serves : goal.returns-in-Ok-Some-clause-serves
@@ -63,7 +63,7 @@ returns-clause-serves g c = λ known input told. progress_limit g.S.Source.left 
 pub returns-in-Err-serve_one-clause-serves : goal.returns-in-Err-serve_one-clause-serves
 returns-in-Err-serve_one-clause-serves g c = λ known.
     let before = c.loop-count.invariant in
-    serves_failed g.S.Source.left g.S.Source.asked c.args.source.now c.loop-count.source c.serve_one.new.source _ _ (Exchanges g.L.Link.stand g.C.Clock.tells g.C.Clock.hand c.loop-count.desk c.loop-count.clock c.serve_one.new.desk c.serve_one.new.clock) _ _ _ _ c.loop-count.count _ _ (c.loop-count.count + 1 == max_requests) c.loop-count-test.true (sym c.is_over.ensures ∙ c.if-is_over.false)
+    serves_failed g.S.Source.left g.S.Source.asked c.args.source.now c.loop-count.source c.serve_one.new.source _ _ (Exchanges g.L.Link.stand g.C.Clock.tells g.C.Clock.hand c.loop-count.desk c.loop-count.clock c.serve_one.new.desk c.serve_one.new.clock) _ _ _ _ c.loop-count.count c.loop-count.connection c.serve_one.new.connection (c.loop-count.count + 1 == max_requests) c.loop-count-test.true (sym c.is_over.ensures ∙ c.if-is_over.false)
     (λ input told. before.progress known input told)
     (exchanges_more g.L.Link.stand g.C.Clock.tells g.C.Clock.hand c.args.desk.now c.loop-count.desk c.serve_one.new.desk c.args.clock.now c.loop-count.clock c.serve_one.new.clock before.goes.0 before.goes.1.plainly before.goes.2)
     (λ idle. exchanges_same g.L.Link.stand g.C.Clock.tells g.C.Clock.hand c.args.desk.now c.loop-count.desk c.serve_one.new.desk c.args.clock.now c.loop-count.clock c.serve_one.new.clock idle.0 idle.1)
