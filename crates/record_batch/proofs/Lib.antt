@@ -10,3 +10,4 @@ pub mod OffsetLaws
 mod Moving
 mod FirstLemmas
 mod OneBatchLemmas
+mod FaultLemmas

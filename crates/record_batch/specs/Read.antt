@@ -1,11 +1,15 @@
 -- Items read in turn, up to the first that doesn't read or is out of its bounds.
-use Rattle.std.specs.Prelude.{ℕ, ◌≡◌, ◌+◌, ◌-◌, List, [], ◌∷◌, length, Result, Ok, Err}
+use Rattle.std.specs.Prelude.{ℕ, ◌≡◌, ◌+◌, ◌-◌, List, [], ◌∷◌, length, drop, Result, Ok, Err}
 use Rattle.wire_prim.specs.Reading.{Reading}
 use Rattle.wire_prim.specs.Behind.{Behind}
 
 -- a value and how far the reading has come, or the place of the item at fault
 abbrev pub Read : Type 0 → Type 0
 Read A = Result (A × Reading) ℕ
+
+-- so many bytes further
+abbrev pub after : ℕ → Reading → Reading
+after n at = record { place = at.place + n; left = drop n at.left }
 
 -- one item and then what depends on it
 abbrev pub onward : {A B : Type 0} → Read A → (A → Reading → Read B) → Read B

@@ -1,7 +1,8 @@
 //! Judges the batch that some bytes begin with. Nothing is kept of its records, so it takes no memory.
-ghost use Rattle.std.specs.Prelude.{ℤ, ℕ, List, ◌≡◌, ◌≤◌, ◌&&◌, pos, length, None, IfSome};
+ghost use Rattle.std.specs.Prelude.{ℤ, ℕ, List, ◌≡◌, ◌≤◌, ◌&&◌, pos, length, None, IfErr, IfSome};
 ghost use Rattle.std.specs.Ordering.{int_eq};
 ghost use Rattle.broker_link.specs.declared.link.Stored.{Stored};
+ghost use Rattle.record_batch.specs.declared.fault.BatchFault.TheVariants.{Want};
 ghost use Rattle.record_batch.specs.Record.{records_at};
 ghost use Rattle.record_batch.specs.Batch.{named};
 ghost use Rattle.record_batch.specs.First.{IsOneBatch, Judges, JudgesPart, TellsDeltas};
@@ -76,9 +77,10 @@ fn judge(batch: Cursor) -> Result<FirstBatch, BatchFault>
 }
 
 /// The batch that the bytes begin with; none where they end before it does. A fault is that of this batch, as
-/// `read_batches` names it.
+/// `read_batches` names it, and never want of memory.
 pub fn first_batch(bytes: &[u8]) -> Result<Option<FirstBatch>, BatchFault>
-    ensures { Judges result bytes.now }
+    ensures judges { Judges result bytes.now }
+    ensures not_want { IfErr result (λ fault. fault ≡ Want → ⊥) }
 {
     let mut cursor = Cursor::new(bytes);
     match next_batch(&mut cursor) {

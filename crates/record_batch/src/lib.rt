@@ -3,6 +3,7 @@
 
 mod base;
 mod fault;
+mod field;
 mod first;
 mod laws;
 mod read;

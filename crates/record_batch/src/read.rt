@@ -1,19 +1,21 @@
 //! Reads the batches of a partition.
-ghost use Rattle.std.specs.Prelude.{ℤ, ◌≡◌, ◌≤◌, ◌<ℤ◌, ◌+◌, ◌^◌, ◌++◌, ◌∷◌, [], pos, length, option_map, take, drop, IfOk, IfErr, OnOk, IsOk};
+ghost use Rattle.std.specs.Prelude.{ℤ, ◌≡◌, ◌≤◌, ◌<ℤ◌, ◌+◌, ◌^◌, ◌++◌, ◌∷◌, [], pos, length, option_map, take, IfOk, IfErr, OnOk};
 ghost use Rattle.wire_prim.specs.Reading.{Reading};
 ghost use Rattle.record_batch.specs.declared.fault.BatchFault.TheVariants.{Want};
 ghost use Rattle.record_batch.specs.Batch.{Adds, HasRows, IsFramed, added, batch_at, batches_of, fault_of, fields_of, frame_at, named, rows_from, rows_of};
+ghost use Rattle.record_batch.specs.Read.{after};
 ghost use Rattle.record_batch.specs.Record.{records_at};
 ghost use Rattle.record_batch.specs.Seen.{fields_seen, seen};
 ghost use Rattle.record_batch.specs.First.{Counts};
 ghost use Rattle.wire_prim.specs.Behind.{int64_at};
 
 use crate::fault::BatchFault;
+use crate::field;
 use crate::record::{Row, record};
 use broker_link::Stored;
 use gate_io::Items;
 use std::alloc::{AllocError, Global};
-use wire_prim::{Cursor, PrimNo, crc32c};
+use wire_prim::{Cursor, crc32c};
 
 fn owned(alloc: Global, piece: Option<&[u8]>) -> Result<Option<Items<u8>>, AllocError>
     ensures { IfOk result (λ it. it ≡ option_map (λ p. p.now) piece.entry) }
@@ -52,30 +54,27 @@ struct Head<'a> {
 }
 
 // The fields of a batch, up to its records.
-fn fields<'a>(cursor: &mut Cursor<'a>) -> Result<Head<'a>, PrimNo>
+fn fields<'a>(cursor: &mut Cursor<'a>) -> Head<'a>
     requires { 61 ≤ length cursor.old.left }
-    ensures fields { IfOk result (λ head. fields_seen head ≡ fields_of cursor.old.left) }
-    ensures place { IfOk result (λ head.
-        cursor.new ≡ record { place = cursor.old.place + 61; left = drop 61 cursor.old.left }) }
-    ensures whole { IsOk result }
+    ensures fields { fields_seen result ≡ fields_of cursor.old.left }
+    ensures moves { cursor.new ≡ after 61 cursor.old }
 {
-    let base = cursor.int64()?;
-    cursor.int32()?; // the length of what follows
-    cursor.int32()?; // the leader's epoch
-    let magic = cursor.int8()?;
-    let crc = cursor.int32()?.cast_unsigned();
+    let base = field::int64(cursor);
+    field::skip(cursor, 8); // the length of what follows, and the leader's epoch
+    let magic = field::int8(cursor);
+    let crc = field::int32(cursor).cast_unsigned();
     let summed = cursor.rest();
-    let attributes = cursor.int16()?.cast_unsigned();
-    cursor.piece(34)?; // the last delta, two timestamps, and the producer's id, epoch and sequence
-    let count = cursor.int32()?;
-    Ok(Head {
+    let attributes = field::int16(cursor).cast_unsigned();
+    field::skip(cursor, 34); // the last delta, two timestamps, and the producer's id, epoch and sequence
+    let count = field::int32(cursor);
+    Head {
         base,
         magic,
         crc,
         summed,
         attributes,
         count,
-    })
+    }
 }
 
 // The records of a batch, and nothing behind them.
@@ -136,9 +135,7 @@ pub fn counted(batch: Cursor) -> Result<(u32, i64, Cursor), BatchFault>
 {
     let mut batch = batch;
     let place = batch.place();
-    let Ok(head) = fields(&mut batch) else {
-        return Err(BatchFault::BadRecord(place));
-    };
+    let head = fields(&mut batch);
     if let Some(fault) = fault_of(&head) {
         return Err(fault);
     }

@@ -1,12 +1,11 @@
 -- From the topics so far and the next one, to those topics with it.
-use Rattle.std.proofs.Common.{◌≡◌, ℕ, ◌+◌, ◌<◌, ◌^◌, List, [], ◌∷◌, ◌++◌, length, map, take, get_or, Bool, true, false, refl, sym, ap, ◌∙◌, subst, arith, length-append, append-nil, append_assoc, Ok, Err}
-use Rattle.std.proofs.lemmas.List.{take_more}
-use Rattle.wire_prim.specs.Reading.{Reading, Takes}
+use Rattle.std.proofs.Common.{◌≡◌, ℕ, ◌+◌, ◌<◌, ◌^◌, List, [], ◌∷◌, ◌++◌, length, map, Bool, true, false, refl, sym, ap, ◌∙◌, arith, length-append, append-nil, append_assoc, Ok, Err}
+use Rattle.wire_prim.specs.Reading.{Reading}
 use Rattle.wire_data.specs.declared.metadata_response.MetadataResponse.{MetadataResponse}
 use Rattle.wire_data.specs.declared.metadata_response.MetadataResponseRow2.{MetadataResponseRow2}
-use Rattle.wire_layout.specs.Layout.{Layout, without_place, spelled, each, array}
-use Rattle.wire_layout.proofs.Loops.{spelled_more, each_more, taken_more, put_more, fits_more}
-use Rattle.wire_data.specs.MetadataResponse.{AreTold, IsTold, IsResponseRead, Spells, Topic, stored_topic, stored_response, stored_response_laid, topic_of, as_stored, is_set, flag_of, stored_of, response_of}
+use Rattle.wire_layout.specs.Layout.{without_place, spelled, each, array}
+use Rattle.wire_layout.proofs.Loops.{each_more, taken_more}
+use Rattle.wire_data.specs.MetadataResponse.{AreTold, IsTold, IsResponseRead, Topic, stored_topic, stored_response, stored_response_laid, topic_of, as_stored, is_set, flag_of, stored_of, response_of}
 use Rattle.wire_layout.specs.declared.error.WireNo.{WireNo}
 use Rattle.wire_layout.specs.declared.error.WireNo.TheVariants.{Prim, Rest, Want}
 use Rattle.wire_layout.specs.Whole.{IsRead}

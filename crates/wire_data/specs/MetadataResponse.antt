@@ -1,5 +1,5 @@
 -- Metadata, version 1, the response: Kafka protocol guide, "Metadata API (Key: 3)", and BOOLEAN of "Protocol Primitive Types".
-use Rattle.std.specs.Prelude.{ℤ, pos, negsuc, ℕ, zero, suc, ◌≡◌, List, [], Bool, true, false, map, length, refl, Result, IfOk}
+use Rattle.std.specs.Prelude.{ℤ, pos, negsuc, ℕ, zero, suc, ◌≡◌, List, Bool, true, false, map, length, refl, Result, IfOk}
 use Rattle.wire_data.specs.declared.metadata_response.MetadataResponse.{MetadataResponse}
 use Rattle.wire_data.specs.declared.metadata_response.MetadataResponseRow2.{MetadataResponseRow2}
 use Rattle.wire_data.specs.declared.metadata.MetadataResponseRow.{MetadataResponseRow}

@@ -37,7 +37,7 @@ impl Put for ApiVersionsRequest {
 }
 
 impl Laid for ApiVersionsRequest {
-    fn read(_alloc: Global, _cursor: &mut Cursor) -> Result<ApiVersionsRequest, PrimNo> {
+    fn decode(_alloc: Global, _cursor: &mut Cursor) -> Result<ApiVersionsRequest, PrimNo> {
         Ok(ApiVersionsRequest {})
     }
 
@@ -80,9 +80,9 @@ impl Put for ApiVersionsResponse {
 }
 
 impl Laid for ApiVersionsResponse {
-    fn read(alloc: Global, cursor: &mut Cursor) -> Result<ApiVersionsResponse, PrimNo> {
-        let code = i16::read(alloc, cursor)?;
-        let rows = Items::read(alloc, cursor)?;
+    fn decode(alloc: Global, cursor: &mut Cursor) -> Result<ApiVersionsResponse, PrimNo> {
+        let code = i16::decode(alloc, cursor)?;
+        let rows = Items::decode(alloc, cursor)?;
         Ok(ApiVersionsResponse { code, rows })
     }
 
@@ -111,10 +111,10 @@ impl Put for ApiVersionsResponseRow {
 }
 
 impl Laid for ApiVersionsResponseRow {
-    fn read(alloc: Global, cursor: &mut Cursor) -> Result<ApiVersionsResponseRow, PrimNo> {
-        let key = i16::read(alloc, cursor)?;
-        let min = i16::read(alloc, cursor)?;
-        let max = i16::read(alloc, cursor)?;
+    fn decode(alloc: Global, cursor: &mut Cursor) -> Result<ApiVersionsResponseRow, PrimNo> {
+        let key = i16::decode(alloc, cursor)?;
+        let min = i16::decode(alloc, cursor)?;
+        let max = i16::decode(alloc, cursor)?;
         Ok(ApiVersionsResponseRow { key, min, max })
     }
 

@@ -6,7 +6,7 @@ ghost use Rattle.wire_data.specs.Fetch.{fetch_request, fetch_request_laid, fetch
 use gate_io::{Items, Text, Want};
 use std::alloc::Global;
 use wire_layout::{
-    Laid, Message, Put, WireNo, put_nullable_piece, read_nullable_piece, read_whole, write_whole,
+    Laid, Message, Put, WireNo, put_nullable_piece, decode_nullable_piece, read_whole, write_whole,
 };
 use wire_prim::{Cursor, PrimNo};
 
@@ -53,13 +53,13 @@ impl Put for FetchRequest {
 }
 
 impl Laid for FetchRequest {
-    fn read(alloc: Global, cursor: &mut Cursor) -> Result<FetchRequest, PrimNo> {
-        let replica = i32::read(alloc, cursor)?;
-        let max_wait_ms = i32::read(alloc, cursor)?;
-        let min_bytes = i32::read(alloc, cursor)?;
-        let max_bytes = i32::read(alloc, cursor)?;
-        let isolation = i8::read(alloc, cursor)?;
-        let rows = Items::read(alloc, cursor)?;
+    fn decode(alloc: Global, cursor: &mut Cursor) -> Result<FetchRequest, PrimNo> {
+        let replica = i32::decode(alloc, cursor)?;
+        let max_wait_ms = i32::decode(alloc, cursor)?;
+        let min_bytes = i32::decode(alloc, cursor)?;
+        let max_bytes = i32::decode(alloc, cursor)?;
+        let isolation = i8::decode(alloc, cursor)?;
+        let rows = Items::decode(alloc, cursor)?;
         Ok(FetchRequest {
             replica,
             max_wait_ms,
@@ -93,9 +93,9 @@ impl Put for FetchRequestRow {
 }
 
 impl Laid for FetchRequestRow {
-    fn read(alloc: Global, cursor: &mut Cursor) -> Result<FetchRequestRow, PrimNo> {
-        let name = Text::read(alloc, cursor)?;
-        let rows = Items::read(alloc, cursor)?;
+    fn decode(alloc: Global, cursor: &mut Cursor) -> Result<FetchRequestRow, PrimNo> {
+        let name = Text::decode(alloc, cursor)?;
+        let rows = Items::decode(alloc, cursor)?;
         Ok(FetchRequestRow { name, rows })
     }
 
@@ -123,10 +123,10 @@ impl Put for FetchRequestRowRow {
 }
 
 impl Laid for FetchRequestRowRow {
-    fn read(alloc: Global, cursor: &mut Cursor) -> Result<FetchRequestRowRow, PrimNo> {
-        let partition = i32::read(alloc, cursor)?;
-        let offset = i64::read(alloc, cursor)?;
-        let max_bytes = i32::read(alloc, cursor)?;
+    fn decode(alloc: Global, cursor: &mut Cursor) -> Result<FetchRequestRowRow, PrimNo> {
+        let partition = i32::decode(alloc, cursor)?;
+        let offset = i64::decode(alloc, cursor)?;
+        let max_bytes = i32::decode(alloc, cursor)?;
         Ok(FetchRequestRowRow {
             partition,
             offset,
@@ -171,9 +171,9 @@ impl Put for FetchResponse {
 }
 
 impl Laid for FetchResponse {
-    fn read(alloc: Global, cursor: &mut Cursor) -> Result<FetchResponse, PrimNo> {
-        let throttle_ms = i32::read(alloc, cursor)?;
-        let rows = Items::read(alloc, cursor)?;
+    fn decode(alloc: Global, cursor: &mut Cursor) -> Result<FetchResponse, PrimNo> {
+        let throttle_ms = i32::decode(alloc, cursor)?;
+        let rows = Items::decode(alloc, cursor)?;
         Ok(FetchResponse { throttle_ms, rows })
     }
 
@@ -200,9 +200,9 @@ impl Put for FetchResponseRow {
 }
 
 impl Laid for FetchResponseRow {
-    fn read(alloc: Global, cursor: &mut Cursor) -> Result<FetchResponseRow, PrimNo> {
-        let name = Text::read(alloc, cursor)?;
-        let rows = Items::read(alloc, cursor)?;
+    fn decode(alloc: Global, cursor: &mut Cursor) -> Result<FetchResponseRow, PrimNo> {
+        let name = Text::decode(alloc, cursor)?;
+        let rows = Items::decode(alloc, cursor)?;
         Ok(FetchResponseRow { name, rows })
     }
 
@@ -236,13 +236,13 @@ impl Put for FetchResponseRowRow {
 }
 
 impl Laid for FetchResponseRowRow {
-    fn read(alloc: Global, cursor: &mut Cursor) -> Result<FetchResponseRowRow, PrimNo> {
-        let partition = i32::read(alloc, cursor)?;
-        let code = i16::read(alloc, cursor)?;
-        let high_watermark = i64::read(alloc, cursor)?;
-        let stable_offset = i64::read(alloc, cursor)?;
-        let rows = Option::read(alloc, cursor)?;
-        let batches = read_nullable_piece(alloc, cursor)?;
+    fn decode(alloc: Global, cursor: &mut Cursor) -> Result<FetchResponseRowRow, PrimNo> {
+        let partition = i32::decode(alloc, cursor)?;
+        let code = i16::decode(alloc, cursor)?;
+        let high_watermark = i64::decode(alloc, cursor)?;
+        let stable_offset = i64::decode(alloc, cursor)?;
+        let rows = Option::decode(alloc, cursor)?;
+        let batches = decode_nullable_piece(alloc, cursor)?;
         Ok(FetchResponseRowRow {
             partition,
             code,
@@ -274,9 +274,9 @@ impl Put for FetchResponseRowRowRow {
 }
 
 impl Laid for FetchResponseRowRowRow {
-    fn read(alloc: Global, cursor: &mut Cursor) -> Result<FetchResponseRowRowRow, PrimNo> {
-        let producer = i64::read(alloc, cursor)?;
-        let first = i64::read(alloc, cursor)?;
+    fn decode(alloc: Global, cursor: &mut Cursor) -> Result<FetchResponseRowRowRow, PrimNo> {
+        let producer = i64::decode(alloc, cursor)?;
+        let first = i64::decode(alloc, cursor)?;
         Ok(FetchResponseRowRowRow { producer, first })
     }
 

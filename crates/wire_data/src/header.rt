@@ -47,11 +47,11 @@ impl Put for RequestHeader {
 }
 
 impl Laid for RequestHeader {
-    fn read(alloc: Global, cursor: &mut Cursor) -> Result<RequestHeader, PrimNo> {
-        let key = i16::read(alloc, cursor)?;
-        let version = i16::read(alloc, cursor)?;
-        let correlation = i32::read(alloc, cursor)?;
-        let client = Option::read(alloc, cursor)?;
+    fn decode(alloc: Global, cursor: &mut Cursor) -> Result<RequestHeader, PrimNo> {
+        let key = i16::decode(alloc, cursor)?;
+        let version = i16::decode(alloc, cursor)?;
+        let correlation = i32::decode(alloc, cursor)?;
+        let client = Option::decode(alloc, cursor)?;
         Ok(RequestHeader {
             key,
             version,
@@ -97,8 +97,8 @@ impl Put for ResponseHeader {
 }
 
 impl Laid for ResponseHeader {
-    fn read(alloc: Global, cursor: &mut Cursor) -> Result<ResponseHeader, PrimNo> {
-        let correlation = i32::read(alloc, cursor)?;
+    fn decode(alloc: Global, cursor: &mut Cursor) -> Result<ResponseHeader, PrimNo> {
+        let correlation = i32::decode(alloc, cursor)?;
         Ok(ResponseHeader { correlation })
     }
 

@@ -26,6 +26,3 @@ pub use produce::{
     ProduceResponseRowRow,
 };
 pub use wire_layout::WireNo;
-
-#[cfg(test)]
-mod tests;

@@ -42,9 +42,9 @@ impl Put for ListOffsetsRequest {
 }
 
 impl Laid for ListOffsetsRequest {
-    fn read(alloc: Global, cursor: &mut Cursor) -> Result<ListOffsetsRequest, PrimNo> {
-        let replica = i32::read(alloc, cursor)?;
-        let rows = Items::read(alloc, cursor)?;
+    fn decode(alloc: Global, cursor: &mut Cursor) -> Result<ListOffsetsRequest, PrimNo> {
+        let replica = i32::decode(alloc, cursor)?;
+        let rows = Items::decode(alloc, cursor)?;
         Ok(ListOffsetsRequest { replica, rows })
     }
 
@@ -71,9 +71,9 @@ impl Put for ListOffsetsRequestRow {
 }
 
 impl Laid for ListOffsetsRequestRow {
-    fn read(alloc: Global, cursor: &mut Cursor) -> Result<ListOffsetsRequestRow, PrimNo> {
-        let name = Text::read(alloc, cursor)?;
-        let rows = Items::read(alloc, cursor)?;
+    fn decode(alloc: Global, cursor: &mut Cursor) -> Result<ListOffsetsRequestRow, PrimNo> {
+        let name = Text::decode(alloc, cursor)?;
+        let rows = Items::decode(alloc, cursor)?;
         Ok(ListOffsetsRequestRow { name, rows })
     }
 
@@ -99,9 +99,9 @@ impl Put for ListOffsetsRequestRowRow {
 }
 
 impl Laid for ListOffsetsRequestRowRow {
-    fn read(alloc: Global, cursor: &mut Cursor) -> Result<ListOffsetsRequestRowRow, PrimNo> {
-        let partition = i32::read(alloc, cursor)?;
-        let timestamp = i64::read(alloc, cursor)?;
+    fn decode(alloc: Global, cursor: &mut Cursor) -> Result<ListOffsetsRequestRowRow, PrimNo> {
+        let partition = i32::decode(alloc, cursor)?;
+        let timestamp = i64::decode(alloc, cursor)?;
         Ok(ListOffsetsRequestRowRow {
             partition,
             timestamp,
@@ -143,8 +143,8 @@ impl Put for ListOffsetsResponse {
 }
 
 impl Laid for ListOffsetsResponse {
-    fn read(alloc: Global, cursor: &mut Cursor) -> Result<ListOffsetsResponse, PrimNo> {
-        let rows = Items::read(alloc, cursor)?;
+    fn decode(alloc: Global, cursor: &mut Cursor) -> Result<ListOffsetsResponse, PrimNo> {
+        let rows = Items::decode(alloc, cursor)?;
         Ok(ListOffsetsResponse { rows })
     }
 
@@ -171,9 +171,9 @@ impl Put for ListOffsetsResponseRow {
 }
 
 impl Laid for ListOffsetsResponseRow {
-    fn read(alloc: Global, cursor: &mut Cursor) -> Result<ListOffsetsResponseRow, PrimNo> {
-        let name = Text::read(alloc, cursor)?;
-        let rows = Items::read(alloc, cursor)?;
+    fn decode(alloc: Global, cursor: &mut Cursor) -> Result<ListOffsetsResponseRow, PrimNo> {
+        let name = Text::decode(alloc, cursor)?;
+        let rows = Items::decode(alloc, cursor)?;
         Ok(ListOffsetsResponseRow { name, rows })
     }
 
@@ -202,11 +202,11 @@ impl Put for ListOffsetsResponseRowRow {
 }
 
 impl Laid for ListOffsetsResponseRowRow {
-    fn read(alloc: Global, cursor: &mut Cursor) -> Result<ListOffsetsResponseRowRow, PrimNo> {
-        let partition = i32::read(alloc, cursor)?;
-        let code = i16::read(alloc, cursor)?;
-        let timestamp = i64::read(alloc, cursor)?;
-        let offset = i64::read(alloc, cursor)?;
+    fn decode(alloc: Global, cursor: &mut Cursor) -> Result<ListOffsetsResponseRowRow, PrimNo> {
+        let partition = i32::decode(alloc, cursor)?;
+        let code = i16::decode(alloc, cursor)?;
+        let timestamp = i64::decode(alloc, cursor)?;
+        let offset = i64::decode(alloc, cursor)?;
         Ok(ListOffsetsResponseRowRow {
             partition,
             code,

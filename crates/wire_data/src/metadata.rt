@@ -40,8 +40,8 @@ impl Put for MetadataRequest {
 }
 
 impl Laid for MetadataRequest {
-    fn read(alloc: Global, cursor: &mut Cursor) -> Result<MetadataRequest, PrimNo> {
-        let name = Option::read(alloc, cursor)?;
+    fn decode(alloc: Global, cursor: &mut Cursor) -> Result<MetadataRequest, PrimNo> {
+        let name = Option::decode(alloc, cursor)?;
         Ok(MetadataRequest { name })
     }
 
@@ -72,11 +72,11 @@ impl Put for MetadataResponseRow {
 }
 
 impl Laid for MetadataResponseRow {
-    fn read(alloc: Global, cursor: &mut Cursor) -> Result<MetadataResponseRow, PrimNo> {
-        let node = i32::read(alloc, cursor)?;
-        let host = Text::read(alloc, cursor)?;
-        let port = i32::read(alloc, cursor)?;
-        let rack = Option::read(alloc, cursor)?;
+    fn decode(alloc: Global, cursor: &mut Cursor) -> Result<MetadataResponseRow, PrimNo> {
+        let node = i32::decode(alloc, cursor)?;
+        let host = Text::decode(alloc, cursor)?;
+        let port = i32::decode(alloc, cursor)?;
+        let rack = Option::decode(alloc, cursor)?;
         Ok(MetadataResponseRow {
             node,
             host,
@@ -113,12 +113,12 @@ impl Put for MetadataResponseRow2Row {
 }
 
 impl Laid for MetadataResponseRow2Row {
-    fn read(alloc: Global, cursor: &mut Cursor) -> Result<MetadataResponseRow2Row, PrimNo> {
-        let code = i16::read(alloc, cursor)?;
-        let partition = i32::read(alloc, cursor)?;
-        let leader = i32::read(alloc, cursor)?;
-        let replica = Items::read(alloc, cursor)?;
-        let in_sync = Items::read(alloc, cursor)?;
+    fn decode(alloc: Global, cursor: &mut Cursor) -> Result<MetadataResponseRow2Row, PrimNo> {
+        let code = i16::decode(alloc, cursor)?;
+        let partition = i32::decode(alloc, cursor)?;
+        let leader = i32::decode(alloc, cursor)?;
+        let replica = Items::decode(alloc, cursor)?;
+        let in_sync = Items::decode(alloc, cursor)?;
         Ok(MetadataResponseRow2Row {
             code,
             partition,

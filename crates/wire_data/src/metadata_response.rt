@@ -41,14 +41,14 @@ fn flag_of(internal: bool) -> i8
     if internal { 1 } else { 0 }
 }
 
-fn read_topic(alloc: Global, cursor: &mut Cursor) -> Result<MetadataResponseRow2, PrimNo>
+fn decode_topic(alloc: Global, cursor: &mut Cursor) -> Result<MetadataResponseRow2, PrimNo>
     ensures value { IfOk result (λ m. IsTold topic_of stored_topic m cursor.old cursor.new) }
     ensures answer { ReachesOrWants result (stored_topic.behind cursor.old.left) cursor.new.left }
 {
-    let code = i16::read(alloc, cursor)?;
-    let name = Text::read(alloc, cursor)?;
-    let flag = i8::read(alloc, cursor)?;
-    let rows = Items::read(alloc, cursor)?;
+    let code = i16::decode(alloc, cursor)?;
+    let name = Text::decode(alloc, cursor)?;
+    let flag = i8::decode(alloc, cursor)?;
+    let rows = Items::decode(alloc, cursor)?;
     let internal = is_set(flag);
     Ok(MetadataResponseRow2 {
         code,
@@ -58,7 +58,7 @@ fn read_topic(alloc: Global, cursor: &mut Cursor) -> Result<MetadataResponseRow2
     })
 }
 
-fn read_topics(
+fn decode_topics(
     alloc: Global,
     cursor: &mut Cursor,
     count: u32,
@@ -68,7 +68,7 @@ fn read_topics(
 {
     let mut topics = Items::new(alloc);
     for _ in 0..count {
-        let topic = match read_topic(alloc, cursor) {
+        let topic = match decode_topic(alloc, cursor) {
             Ok(topic) => topic,
             Err(cause) => return Err(cause),
         };
@@ -84,15 +84,15 @@ fn topics(alloc: Global, cursor: &mut Cursor) -> Result<Items<MetadataResponseRo
     ensures answer { ReachesOrWants result ((array stored_topic).behind cursor.old.left) cursor.new.left }
 {
     let count = cursor.count()?;
-    read_topics(alloc, cursor, count)
+    decode_topics(alloc, cursor, count)
 }
 
 fn response(alloc: Global, cursor: &mut Cursor) -> Result<MetadataResponse, PrimNo>
     ensures value { IfOk result (λ m. IsTold response_of stored_response m cursor.old cursor.new) }
     ensures answer { ReachesOrWants result (stored_response.behind cursor.old.left) cursor.new.left }
 {
-    let rows = Items::read(alloc, cursor)?;
-    let controller = i32::read(alloc, cursor)?;
+    let rows = Items::decode(alloc, cursor)?;
+    let controller = i32::decode(alloc, cursor)?;
     let rows2 = topics(alloc, cursor)?;
     Ok(MetadataResponse {
         rows,

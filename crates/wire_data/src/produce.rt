@@ -6,7 +6,7 @@ ghost use Rattle.wire_data.specs.Produce.{produce_request, produce_request_laid,
 use gate_io::{Items, Text, Want};
 use std::alloc::Global;
 use wire_layout::{
-    Laid, Message, Put, WireNo, put_nullable_piece, read_nullable_piece, read_whole, write_whole,
+    Laid, Message, Put, WireNo, put_nullable_piece, decode_nullable_piece, read_whole, write_whole,
 };
 use wire_prim::{Cursor, PrimNo};
 
@@ -48,11 +48,11 @@ impl Put for ProduceRequest {
 }
 
 impl Laid for ProduceRequest {
-    fn read(alloc: Global, cursor: &mut Cursor) -> Result<ProduceRequest, PrimNo> {
-        let transactional_id = Option::read(alloc, cursor)?;
-        let acks = i16::read(alloc, cursor)?;
-        let timeout_ms = i32::read(alloc, cursor)?;
-        let rows = Items::read(alloc, cursor)?;
+    fn decode(alloc: Global, cursor: &mut Cursor) -> Result<ProduceRequest, PrimNo> {
+        let transactional_id = Option::decode(alloc, cursor)?;
+        let acks = i16::decode(alloc, cursor)?;
+        let timeout_ms = i32::decode(alloc, cursor)?;
+        let rows = Items::decode(alloc, cursor)?;
         Ok(ProduceRequest {
             transactional_id,
             acks,
@@ -84,9 +84,9 @@ impl Put for ProduceRequestRow {
 }
 
 impl Laid for ProduceRequestRow {
-    fn read(alloc: Global, cursor: &mut Cursor) -> Result<ProduceRequestRow, PrimNo> {
-        let name = Text::read(alloc, cursor)?;
-        let rows = Items::read(alloc, cursor)?;
+    fn decode(alloc: Global, cursor: &mut Cursor) -> Result<ProduceRequestRow, PrimNo> {
+        let name = Text::decode(alloc, cursor)?;
+        let rows = Items::decode(alloc, cursor)?;
         Ok(ProduceRequestRow { name, rows })
     }
 
@@ -111,9 +111,9 @@ impl Put for ProduceRequestRowRow {
 }
 
 impl Laid for ProduceRequestRowRow {
-    fn read(alloc: Global, cursor: &mut Cursor) -> Result<ProduceRequestRowRow, PrimNo> {
-        let partition = i32::read(alloc, cursor)?;
-        let batch = read_nullable_piece(alloc, cursor)?;
+    fn decode(alloc: Global, cursor: &mut Cursor) -> Result<ProduceRequestRowRow, PrimNo> {
+        let partition = i32::decode(alloc, cursor)?;
+        let batch = decode_nullable_piece(alloc, cursor)?;
         Ok(ProduceRequestRowRow { partition, batch })
     }
 
@@ -154,9 +154,9 @@ impl Put for ProduceResponse {
 }
 
 impl Laid for ProduceResponse {
-    fn read(alloc: Global, cursor: &mut Cursor) -> Result<ProduceResponse, PrimNo> {
-        let rows = Items::read(alloc, cursor)?;
-        let throttle_ms = i32::read(alloc, cursor)?;
+    fn decode(alloc: Global, cursor: &mut Cursor) -> Result<ProduceResponse, PrimNo> {
+        let rows = Items::decode(alloc, cursor)?;
+        let throttle_ms = i32::decode(alloc, cursor)?;
         Ok(ProduceResponse { rows, throttle_ms })
     }
 
@@ -183,9 +183,9 @@ impl Put for ProduceResponseRow {
 }
 
 impl Laid for ProduceResponseRow {
-    fn read(alloc: Global, cursor: &mut Cursor) -> Result<ProduceResponseRow, PrimNo> {
-        let name = Text::read(alloc, cursor)?;
-        let rows = Items::read(alloc, cursor)?;
+    fn decode(alloc: Global, cursor: &mut Cursor) -> Result<ProduceResponseRow, PrimNo> {
+        let name = Text::decode(alloc, cursor)?;
+        let rows = Items::decode(alloc, cursor)?;
         Ok(ProduceResponseRow { name, rows })
     }
 
@@ -215,11 +215,11 @@ impl Put for ProduceResponseRowRow {
 }
 
 impl Laid for ProduceResponseRowRow {
-    fn read(alloc: Global, cursor: &mut Cursor) -> Result<ProduceResponseRowRow, PrimNo> {
-        let partition = i32::read(alloc, cursor)?;
-        let code = i16::read(alloc, cursor)?;
-        let base_offset = i64::read(alloc, cursor)?;
-        let append_time = i64::read(alloc, cursor)?;
+    fn decode(alloc: Global, cursor: &mut Cursor) -> Result<ProduceResponseRowRow, PrimNo> {
+        let partition = i32::decode(alloc, cursor)?;
+        let code = i16::decode(alloc, cursor)?;
+        let base_offset = i64::decode(alloc, cursor)?;
+        let append_time = i64::decode(alloc, cursor)?;
         Ok(ProduceResponseRowRow {
             partition,
             code,

@@ -1,12 +1,12 @@
 -- From a version and the fields behind it, to the whole value.
-use Rattle.std.proofs.Common.{◌≡◌, ℕ, ℤ, pos, negsuc, ◌<◌, ◌^◌, ◌≤ℤ◌, List, [], ◌∷◌, ◌++◌, length, Ok, FitsSigned, refl, sym, ap, ◌∙◌, arith}
+use Rattle.std.proofs.Common.{◌≡◌, ℕ, ℤ, pos, negsuc, ◌≤ℤ◌, List, [], ◌∷◌, ◌++◌, length, Ok, FitsSigned, refl, sym, ap, ◌∙◌, arith}
 use Rattle.std.specs.Int.{w16}
 use Rattle.wire_prim.specs.Item.{int16_bytes}
 use Rattle.wire_prim.specs.Behind.{behind_int16, int16_at}
 use Rattle.wire_prim.proofs.Readback.{int16_once}
 use Rattle.wire_layout.specs.Layout.{Layout, without_place}
 use Rattle.wire_layout.specs.Laid.{IsLaid}
-use Rattle.wire_group.specs.Versioned.{IsVersionedRead, Spells}
+use Rattle.wire_group.specs.Versioned.{IsVersionedRead}
 
 pub empty_is : (rest : List ℕ) → length rest ≡ 0 → rest ≡ []
 empty_is [] none = refl

@@ -1,12 +1,13 @@
 //! What a member is given.
-ghost use Rattle.std.specs.Prelude.{IfOk};
-ghost use Rattle.wire_group.specs.Versioned.{IsVersionedRead, IsVersionedWritten};
+ghost use Rattle.std.specs.Prelude.{IfErr, IfOk};
+ghost use Rattle.wire_layout.specs.Whole.{IsPlaced, cause_alone};
+ghost use Rattle.wire_group.specs.Versioned.{IsVersionedRead, IsVersionedWritten, behind_versioned};
 ghost use Rattle.wire_group.specs.Assignment.{assignment, assignment_laid, assignment_row, assignment_row_laid};
 
-use crate::versioned::{read_versioned, write_versioned};
+use crate::versioned::{read_versioned, read_versioned_placed, write_versioned};
 use gate_io::{Items, Text, Want};
 use std::alloc::Global;
-use wire_layout::{Laid, Put, WireNo, put_nullable_piece, read_nullable_piece};
+use wire_layout::{Laid, Put, Refusal, WireNo, decode_nullable_piece, put_nullable_piece};
 use wire_prim::{Cursor, PrimNo};
 
 /// The partitions that a member is given (`ConsumerProtocolAssignment`). Its version is 0. `rows` is
@@ -19,6 +20,14 @@ pub struct Assignment {
 }
 
 impl Assignment {
+    /// Reads it as `read` does. A refusal has its place, which counts from the version.
+    pub fn read_placed(alloc: Global, bytes: &[u8]) -> Result<Assignment, Refusal>
+        ensures read { IsVersionedRead assignment bytes.now (cause_alone result) }
+        ensures place { IfErr result (λ refusal. IsPlaced refusal (behind_versioned assignment.behind bytes.now) bytes.now) }
+    {
+        read_versioned_placed(alloc, bytes)
+    }
+
     /// Reads it in any version from 0 on. The further bytes of a higher one are left aside, and the version given is 0.
     pub fn read(alloc: Global, bytes: &[u8]) -> Result<Assignment, WireNo>
         ensures { IsVersionedRead assignment bytes.now result }
@@ -50,9 +59,9 @@ impl Put for Assignment {
 
 /// Of what stands behind the version.
 impl Laid for Assignment {
-    fn read(alloc: Global, cursor: &mut Cursor) -> Result<Assignment, PrimNo> {
-        let rows = Items::read(alloc, cursor)?;
-        let user = read_nullable_piece(alloc, cursor)?;
+    fn decode(alloc: Global, cursor: &mut Cursor) -> Result<Assignment, PrimNo> {
+        let rows = Items::decode(alloc, cursor)?;
+        let user = decode_nullable_piece(alloc, cursor)?;
         Ok(Assignment {
             version: 0,
             rows,
@@ -81,9 +90,9 @@ impl Put for AssignmentRow {
 }
 
 impl Laid for AssignmentRow {
-    fn read(alloc: Global, cursor: &mut Cursor) -> Result<AssignmentRow, PrimNo> {
-        let topic = Text::read(alloc, cursor)?;
-        let partition = Items::read(alloc, cursor)?;
+    fn decode(alloc: Global, cursor: &mut Cursor) -> Result<AssignmentRow, PrimNo> {
+        let topic = Text::decode(alloc, cursor)?;
+        let partition = Items::decode(alloc, cursor)?;
         Ok(AssignmentRow { topic, partition })
     }
 

@@ -40,8 +40,8 @@ impl Put for FindCoordinatorRequest {
 }
 
 impl Laid for FindCoordinatorRequest {
-    fn read(alloc: Global, cursor: &mut Cursor) -> Result<FindCoordinatorRequest, PrimNo> {
-        let group = Text::read(alloc, cursor)?;
+    fn decode(alloc: Global, cursor: &mut Cursor) -> Result<FindCoordinatorRequest, PrimNo> {
+        let group = Text::decode(alloc, cursor)?;
         Ok(FindCoordinatorRequest { group })
     }
 
@@ -88,11 +88,11 @@ impl Put for FindCoordinatorResponse {
 }
 
 impl Laid for FindCoordinatorResponse {
-    fn read(alloc: Global, cursor: &mut Cursor) -> Result<FindCoordinatorResponse, PrimNo> {
-        let code = i16::read(alloc, cursor)?;
-        let node = i32::read(alloc, cursor)?;
-        let host = Text::read(alloc, cursor)?;
-        let port = i32::read(alloc, cursor)?;
+    fn decode(alloc: Global, cursor: &mut Cursor) -> Result<FindCoordinatorResponse, PrimNo> {
+        let code = i16::decode(alloc, cursor)?;
+        let node = i32::decode(alloc, cursor)?;
+        let host = Text::decode(alloc, cursor)?;
+        let port = i32::decode(alloc, cursor)?;
         Ok(FindCoordinatorResponse {
             code,
             node,

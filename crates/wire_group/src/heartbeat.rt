@@ -44,10 +44,10 @@ impl Put for HeartbeatRequest {
 }
 
 impl Laid for HeartbeatRequest {
-    fn read(alloc: Global, cursor: &mut Cursor) -> Result<HeartbeatRequest, PrimNo> {
-        let group = Text::read(alloc, cursor)?;
-        let generation = i32::read(alloc, cursor)?;
-        let member = Text::read(alloc, cursor)?;
+    fn decode(alloc: Global, cursor: &mut Cursor) -> Result<HeartbeatRequest, PrimNo> {
+        let group = Text::decode(alloc, cursor)?;
+        let generation = i32::decode(alloc, cursor)?;
+        let member = Text::decode(alloc, cursor)?;
         Ok(HeartbeatRequest {
             group,
             generation,
@@ -92,8 +92,8 @@ impl Put for HeartbeatResponse {
 }
 
 impl Laid for HeartbeatResponse {
-    fn read(alloc: Global, cursor: &mut Cursor) -> Result<HeartbeatResponse, PrimNo> {
-        let code = i16::read(alloc, cursor)?;
+    fn decode(alloc: Global, cursor: &mut Cursor) -> Result<HeartbeatResponse, PrimNo> {
+        let code = i16::decode(alloc, cursor)?;
         Ok(HeartbeatResponse { code })
     }
 

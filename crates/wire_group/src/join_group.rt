@@ -5,7 +5,7 @@ ghost use Rattle.wire_group.specs.JoinGroup.{join_group_request, join_group_requ
 
 use gate_io::{Items, Text, Want};
 use std::alloc::Global;
-use wire_layout::{Laid, Message, Put, WireNo, put_piece, read_piece, read_whole, write_whole};
+use wire_layout::{Laid, Message, Put, WireNo, decode_piece, put_piece, read_whole, write_whole};
 use wire_prim::{Cursor, PrimNo};
 
 /// A member joins a group: `group_id`, `session_timeout_ms`, `rebalance_timeout_ms`, `member_id`, `protocol_type`, and
@@ -51,13 +51,13 @@ impl Put for JoinGroupRequest {
 }
 
 impl Laid for JoinGroupRequest {
-    fn read(alloc: Global, cursor: &mut Cursor) -> Result<JoinGroupRequest, PrimNo> {
-        let group = Text::read(alloc, cursor)?;
-        let session_ms = i32::read(alloc, cursor)?;
-        let rebalance_ms = i32::read(alloc, cursor)?;
-        let member = Text::read(alloc, cursor)?;
-        let protocol_type = Text::read(alloc, cursor)?;
-        let rows = Items::read(alloc, cursor)?;
+    fn decode(alloc: Global, cursor: &mut Cursor) -> Result<JoinGroupRequest, PrimNo> {
+        let group = Text::decode(alloc, cursor)?;
+        let session_ms = i32::decode(alloc, cursor)?;
+        let rebalance_ms = i32::decode(alloc, cursor)?;
+        let member = Text::decode(alloc, cursor)?;
+        let protocol_type = Text::decode(alloc, cursor)?;
+        let rows = Items::decode(alloc, cursor)?;
         Ok(JoinGroupRequest {
             group,
             session_ms,
@@ -91,9 +91,9 @@ impl Put for JoinGroupRequestRow {
 }
 
 impl Laid for JoinGroupRequestRow {
-    fn read(alloc: Global, cursor: &mut Cursor) -> Result<JoinGroupRequestRow, PrimNo> {
-        let name = Text::read(alloc, cursor)?;
-        let metadata = read_piece(alloc, cursor)?;
+    fn decode(alloc: Global, cursor: &mut Cursor) -> Result<JoinGroupRequestRow, PrimNo> {
+        let name = Text::decode(alloc, cursor)?;
+        let metadata = decode_piece(alloc, cursor)?;
         Ok(JoinGroupRequestRow { name, metadata })
     }
 
@@ -145,14 +145,14 @@ impl Put for JoinGroupResponse {
 }
 
 impl Laid for JoinGroupResponse {
-    fn read(alloc: Global, cursor: &mut Cursor) -> Result<JoinGroupResponse, PrimNo> {
-        let throttle_ms = i32::read(alloc, cursor)?;
-        let code = i16::read(alloc, cursor)?;
-        let generation = i32::read(alloc, cursor)?;
-        let protocol = Text::read(alloc, cursor)?;
-        let leader = Text::read(alloc, cursor)?;
-        let member = Text::read(alloc, cursor)?;
-        let rows = Items::read(alloc, cursor)?;
+    fn decode(alloc: Global, cursor: &mut Cursor) -> Result<JoinGroupResponse, PrimNo> {
+        let throttle_ms = i32::decode(alloc, cursor)?;
+        let code = i16::decode(alloc, cursor)?;
+        let generation = i32::decode(alloc, cursor)?;
+        let protocol = Text::decode(alloc, cursor)?;
+        let leader = Text::decode(alloc, cursor)?;
+        let member = Text::decode(alloc, cursor)?;
+        let rows = Items::decode(alloc, cursor)?;
         Ok(JoinGroupResponse {
             throttle_ms,
             code,
@@ -187,9 +187,9 @@ impl Put for JoinGroupResponseRow {
 }
 
 impl Laid for JoinGroupResponseRow {
-    fn read(alloc: Global, cursor: &mut Cursor) -> Result<JoinGroupResponseRow, PrimNo> {
-        let member = Text::read(alloc, cursor)?;
-        let metadata = read_piece(alloc, cursor)?;
+    fn decode(alloc: Global, cursor: &mut Cursor) -> Result<JoinGroupResponseRow, PrimNo> {
+        let member = Text::decode(alloc, cursor)?;
+        let metadata = decode_piece(alloc, cursor)?;
         Ok(JoinGroupResponseRow { member, metadata })
     }
 

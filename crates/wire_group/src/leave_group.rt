@@ -42,9 +42,9 @@ impl Put for LeaveGroupRequest {
 }
 
 impl Laid for LeaveGroupRequest {
-    fn read(alloc: Global, cursor: &mut Cursor) -> Result<LeaveGroupRequest, PrimNo> {
-        let group = Text::read(alloc, cursor)?;
-        let member = Text::read(alloc, cursor)?;
+    fn decode(alloc: Global, cursor: &mut Cursor) -> Result<LeaveGroupRequest, PrimNo> {
+        let group = Text::decode(alloc, cursor)?;
+        let member = Text::decode(alloc, cursor)?;
         Ok(LeaveGroupRequest { group, member })
     }
 
@@ -85,8 +85,8 @@ impl Put for LeaveGroupResponse {
 }
 
 impl Laid for LeaveGroupResponse {
-    fn read(alloc: Global, cursor: &mut Cursor) -> Result<LeaveGroupResponse, PrimNo> {
-        let code = i16::read(alloc, cursor)?;
+    fn decode(alloc: Global, cursor: &mut Cursor) -> Result<LeaveGroupResponse, PrimNo> {
+        let code = i16::decode(alloc, cursor)?;
         Ok(LeaveGroupResponse { code })
     }
 

@@ -30,6 +30,3 @@ pub use offset_fetch::{
 pub use subscription::Subscription;
 pub use sync_group::{SyncGroupRequest, SyncGroupRequestRow, SyncGroupResponse};
 pub use wire_layout::WireNo;
-
-#[cfg(test)]
-mod tests;

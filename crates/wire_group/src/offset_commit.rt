@@ -49,12 +49,12 @@ impl Put for OffsetCommitRequest {
 }
 
 impl Laid for OffsetCommitRequest {
-    fn read(alloc: Global, cursor: &mut Cursor) -> Result<OffsetCommitRequest, PrimNo> {
-        let group = Text::read(alloc, cursor)?;
-        let generation = i32::read(alloc, cursor)?;
-        let member = Text::read(alloc, cursor)?;
-        let retention_ms = i64::read(alloc, cursor)?;
-        let rows = Items::read(alloc, cursor)?;
+    fn decode(alloc: Global, cursor: &mut Cursor) -> Result<OffsetCommitRequest, PrimNo> {
+        let group = Text::decode(alloc, cursor)?;
+        let generation = i32::decode(alloc, cursor)?;
+        let member = Text::decode(alloc, cursor)?;
+        let retention_ms = i64::decode(alloc, cursor)?;
+        let rows = Items::decode(alloc, cursor)?;
         Ok(OffsetCommitRequest {
             group,
             generation,
@@ -87,9 +87,9 @@ impl Put for OffsetCommitRequestRow {
 }
 
 impl Laid for OffsetCommitRequestRow {
-    fn read(alloc: Global, cursor: &mut Cursor) -> Result<OffsetCommitRequestRow, PrimNo> {
-        let name = Text::read(alloc, cursor)?;
-        let rows = Items::read(alloc, cursor)?;
+    fn decode(alloc: Global, cursor: &mut Cursor) -> Result<OffsetCommitRequestRow, PrimNo> {
+        let name = Text::decode(alloc, cursor)?;
+        let rows = Items::decode(alloc, cursor)?;
         Ok(OffsetCommitRequestRow { name, rows })
     }
 
@@ -117,10 +117,10 @@ impl Put for OffsetCommitRequestRowRow {
 }
 
 impl Laid for OffsetCommitRequestRowRow {
-    fn read(alloc: Global, cursor: &mut Cursor) -> Result<OffsetCommitRequestRowRow, PrimNo> {
-        let partition = i32::read(alloc, cursor)?;
-        let offset = i64::read(alloc, cursor)?;
-        let metadata = Option::read(alloc, cursor)?;
+    fn decode(alloc: Global, cursor: &mut Cursor) -> Result<OffsetCommitRequestRowRow, PrimNo> {
+        let partition = i32::decode(alloc, cursor)?;
+        let offset = i64::decode(alloc, cursor)?;
+        let metadata = Option::decode(alloc, cursor)?;
         Ok(OffsetCommitRequestRowRow {
             partition,
             offset,
@@ -163,8 +163,8 @@ impl Put for OffsetCommitResponse {
 }
 
 impl Laid for OffsetCommitResponse {
-    fn read(alloc: Global, cursor: &mut Cursor) -> Result<OffsetCommitResponse, PrimNo> {
-        let rows = Items::read(alloc, cursor)?;
+    fn decode(alloc: Global, cursor: &mut Cursor) -> Result<OffsetCommitResponse, PrimNo> {
+        let rows = Items::decode(alloc, cursor)?;
         Ok(OffsetCommitResponse { rows })
     }
 
@@ -191,9 +191,9 @@ impl Put for OffsetCommitResponseRow {
 }
 
 impl Laid for OffsetCommitResponseRow {
-    fn read(alloc: Global, cursor: &mut Cursor) -> Result<OffsetCommitResponseRow, PrimNo> {
-        let name = Text::read(alloc, cursor)?;
-        let rows = Items::read(alloc, cursor)?;
+    fn decode(alloc: Global, cursor: &mut Cursor) -> Result<OffsetCommitResponseRow, PrimNo> {
+        let name = Text::decode(alloc, cursor)?;
+        let rows = Items::decode(alloc, cursor)?;
         Ok(OffsetCommitResponseRow { name, rows })
     }
 
@@ -218,9 +218,9 @@ impl Put for OffsetCommitResponseRowRow {
 }
 
 impl Laid for OffsetCommitResponseRowRow {
-    fn read(alloc: Global, cursor: &mut Cursor) -> Result<OffsetCommitResponseRowRow, PrimNo> {
-        let partition = i32::read(alloc, cursor)?;
-        let code = i16::read(alloc, cursor)?;
+    fn decode(alloc: Global, cursor: &mut Cursor) -> Result<OffsetCommitResponseRowRow, PrimNo> {
+        let partition = i32::decode(alloc, cursor)?;
+        let code = i16::decode(alloc, cursor)?;
         Ok(OffsetCommitResponseRowRow { partition, code })
     }
 

@@ -42,9 +42,9 @@ impl Put for OffsetFetchRequest {
 }
 
 impl Laid for OffsetFetchRequest {
-    fn read(alloc: Global, cursor: &mut Cursor) -> Result<OffsetFetchRequest, PrimNo> {
-        let group = Text::read(alloc, cursor)?;
-        let rows = Items::read(alloc, cursor)?;
+    fn decode(alloc: Global, cursor: &mut Cursor) -> Result<OffsetFetchRequest, PrimNo> {
+        let group = Text::decode(alloc, cursor)?;
+        let rows = Items::decode(alloc, cursor)?;
         Ok(OffsetFetchRequest { group, rows })
     }
 
@@ -71,9 +71,9 @@ impl Put for OffsetFetchRequestRow {
 }
 
 impl Laid for OffsetFetchRequestRow {
-    fn read(alloc: Global, cursor: &mut Cursor) -> Result<OffsetFetchRequestRow, PrimNo> {
-        let name = Text::read(alloc, cursor)?;
-        let partition = Items::read(alloc, cursor)?;
+    fn decode(alloc: Global, cursor: &mut Cursor) -> Result<OffsetFetchRequestRow, PrimNo> {
+        let name = Text::decode(alloc, cursor)?;
+        let partition = Items::decode(alloc, cursor)?;
         Ok(OffsetFetchRequestRow { name, partition })
     }
 
@@ -112,8 +112,8 @@ impl Put for OffsetFetchResponse {
 }
 
 impl Laid for OffsetFetchResponse {
-    fn read(alloc: Global, cursor: &mut Cursor) -> Result<OffsetFetchResponse, PrimNo> {
-        let rows = Items::read(alloc, cursor)?;
+    fn decode(alloc: Global, cursor: &mut Cursor) -> Result<OffsetFetchResponse, PrimNo> {
+        let rows = Items::decode(alloc, cursor)?;
         Ok(OffsetFetchResponse { rows })
     }
 
@@ -140,9 +140,9 @@ impl Put for OffsetFetchResponseRow {
 }
 
 impl Laid for OffsetFetchResponseRow {
-    fn read(alloc: Global, cursor: &mut Cursor) -> Result<OffsetFetchResponseRow, PrimNo> {
-        let name = Text::read(alloc, cursor)?;
-        let rows = Items::read(alloc, cursor)?;
+    fn decode(alloc: Global, cursor: &mut Cursor) -> Result<OffsetFetchResponseRow, PrimNo> {
+        let name = Text::decode(alloc, cursor)?;
+        let rows = Items::decode(alloc, cursor)?;
         Ok(OffsetFetchResponseRow { name, rows })
     }
 
@@ -172,11 +172,11 @@ impl Put for OffsetFetchResponseRowRow {
 }
 
 impl Laid for OffsetFetchResponseRowRow {
-    fn read(alloc: Global, cursor: &mut Cursor) -> Result<OffsetFetchResponseRowRow, PrimNo> {
-        let partition = i32::read(alloc, cursor)?;
-        let offset = i64::read(alloc, cursor)?;
-        let metadata = Option::read(alloc, cursor)?;
-        let code = i16::read(alloc, cursor)?;
+    fn decode(alloc: Global, cursor: &mut Cursor) -> Result<OffsetFetchResponseRowRow, PrimNo> {
+        let partition = i32::decode(alloc, cursor)?;
+        let offset = i64::decode(alloc, cursor)?;
+        let metadata = Option::decode(alloc, cursor)?;
+        let code = i16::decode(alloc, cursor)?;
         Ok(OffsetFetchResponseRowRow {
             partition,
             offset,

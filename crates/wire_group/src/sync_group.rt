@@ -5,7 +5,7 @@ ghost use Rattle.wire_group.specs.SyncGroup.{sync_group_request, sync_group_requ
 
 use gate_io::{Items, Text, Want};
 use std::alloc::Global;
-use wire_layout::{Laid, Message, Put, WireNo, put_piece, read_piece, read_whole, write_whole};
+use wire_layout::{Laid, Message, Put, WireNo, decode_piece, put_piece, read_whole, write_whole};
 use wire_prim::{Cursor, PrimNo};
 
 /// A member asks for its share, and the leader gives out the shares: `group_id`, `generation_id`, `member_id`, and
@@ -47,11 +47,11 @@ impl Put for SyncGroupRequest {
 }
 
 impl Laid for SyncGroupRequest {
-    fn read(alloc: Global, cursor: &mut Cursor) -> Result<SyncGroupRequest, PrimNo> {
-        let group = Text::read(alloc, cursor)?;
-        let generation = i32::read(alloc, cursor)?;
-        let member = Text::read(alloc, cursor)?;
-        let rows = Items::read(alloc, cursor)?;
+    fn decode(alloc: Global, cursor: &mut Cursor) -> Result<SyncGroupRequest, PrimNo> {
+        let group = Text::decode(alloc, cursor)?;
+        let generation = i32::decode(alloc, cursor)?;
+        let member = Text::decode(alloc, cursor)?;
+        let rows = Items::decode(alloc, cursor)?;
         Ok(SyncGroupRequest {
             group,
             generation,
@@ -83,9 +83,9 @@ impl Put for SyncGroupRequestRow {
 }
 
 impl Laid for SyncGroupRequestRow {
-    fn read(alloc: Global, cursor: &mut Cursor) -> Result<SyncGroupRequestRow, PrimNo> {
-        let member = Text::read(alloc, cursor)?;
-        let assignment = read_piece(alloc, cursor)?;
+    fn decode(alloc: Global, cursor: &mut Cursor) -> Result<SyncGroupRequestRow, PrimNo> {
+        let member = Text::decode(alloc, cursor)?;
+        let assignment = decode_piece(alloc, cursor)?;
         Ok(SyncGroupRequestRow { member, assignment })
     }
 
@@ -126,9 +126,9 @@ impl Put for SyncGroupResponse {
 }
 
 impl Laid for SyncGroupResponse {
-    fn read(alloc: Global, cursor: &mut Cursor) -> Result<SyncGroupResponse, PrimNo> {
-        let code = i16::read(alloc, cursor)?;
-        let assignment = read_piece(alloc, cursor)?;
+    fn decode(alloc: Global, cursor: &mut Cursor) -> Result<SyncGroupResponse, PrimNo> {
+        let code = i16::decode(alloc, cursor)?;
+        let assignment = decode_piece(alloc, cursor)?;
         Ok(SyncGroupResponse { code, assignment })
     }
 

@@ -1,5 +1,5 @@
 -- From an item that is read whole or not at all, to where the cursor stands.
-use Rattle.std.proofs.Common.{◌≡◌, List, ℕ, refl, Result, Ok, Err, OnErr, ap, ◌∙◌, ◌⊎◌, inl, inr}
+use Rattle.std.proofs.Common.{◌≡◌, refl, Result, Ok, Err, OnErr, ap, ◌⊎◌, inl, inr}
 use Rattle.wire_prim.specs.declared.error.PrimNo.{PrimNo}
 use Rattle.wire_prim.specs.declared.error.PrimNo.TheVariants.{Want}
 use Rattle.wire_prim.specs.Reading.{Reading}

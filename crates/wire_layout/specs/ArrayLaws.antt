@@ -1,5 +1,5 @@
 -- From an item that is laid out well, to arrays of it.
-use Rattle.std.proofs.Common.{◌≡◌, ℕ, ◌<◌, ◌^◌, List, [], ◌∷◌, ◌++◌, length, Ok, ℤ, pos, negsuc, Option, None, Some, FitsSigned, refl, sym, ap, ◌∙◌, arith, append_assoc}
+use Rattle.std.proofs.Common.{◌≡◌, ℕ, ◌<◌, ◌^◌, List, [], ◌∷◌, ◌++◌, length, Ok, pos, negsuc, Option, None, Some, FitsSigned, refl, sym, ap, ◌∙◌, arith, append_assoc}
 use Rattle.std.specs.Int.{w32}
 use Rattle.wire_prim.specs.Item.{int32_bytes, count_item}
 use Rattle.wire_prim.specs.Behind.{behind_count, behind_nullable_count, count_at, nullable_count_at}

@@ -7,7 +7,7 @@ ghost use Rattle.wire_layout.specs.ArrayLaws.{array_laid, nullable_array_laid};
 use crate::laid::{Laid, Put};
 use gate_io::{Items, Want};
 use std::alloc::Global;
-use wire_prim::{Cursor, PrimNo, put_count, put_int32};
+use wire_prim::{Cursor, PrimNo, put_count, put_nullable_count};
 
 fn put_items<T: Put>(out: &mut Vec<u8>, items: &[T]) -> Result<(), Want>
     ensures ok { OnOk result (out.new.items ≡ out.old.items ++ spelled T.layout.spelling items.now) }
@@ -19,7 +19,7 @@ fn put_items<T: Put>(out: &mut Vec<u8>, items: &[T]) -> Result<(), Want>
     Ok(())
 }
 
-fn read_items<T: Laid + Drop>(
+fn decode_items<T: Laid + Drop>(
     alloc: Global,
     cursor: &mut Cursor,
     count: u32,
@@ -31,7 +31,7 @@ fn read_items<T: Laid + Drop>(
 {
     let mut items = Items::new(alloc);
     for _ in 0..count {
-        let item = match T::read(alloc, cursor) {
+        let item = match T::decode(alloc, cursor) {
             Ok(item) => item,
             Err(cause) => return Err(cause),
         };
@@ -56,9 +56,9 @@ impl<T: Put> Put for Items<T> {
 
 #[tactic(auto, unfolding(crate::specs::Layout::array))]
 impl<T: Laid + Drop> Laid for Items<T> {
-    fn read(alloc: Global, cursor: &mut Cursor) -> Result<Items<T>, PrimNo> {
+    fn decode(alloc: Global, cursor: &mut Cursor) -> Result<Items<T>, PrimNo> {
         let count = cursor.count()?;
-        read_items(alloc, cursor, count)
+        decode_items(alloc, cursor, count)
     }
 
     ghost laid = { array_laid T.layout T.laid };
@@ -70,19 +70,23 @@ impl<T: Put> Put for Option<Items<T>> {
 
     fn put(&self, out: &mut Vec<u8>) -> Result<(), Want> {
         match self {
-            Some(items) => items.put(out),
-            None => put_int32(out, -1),
+            Some(items) if items.len() > 0x7fff_ffff => Err(Want),
+            Some(items) => {
+                put_nullable_count(out, Some(items.len() as u32))?;
+                put_items(out, items.as_slice())
+            }
+            None => put_nullable_count(out, None),
         }
     }
 }
 
 #[tactic(auto, unfolding(crate::specs::Layout::nullable_array))]
 impl<T: Laid + Drop> Laid for Option<Items<T>> {
-    fn read(alloc: Global, cursor: &mut Cursor) -> Result<Option<Items<T>>, PrimNo> {
+    fn decode(alloc: Global, cursor: &mut Cursor) -> Result<Option<Items<T>>, PrimNo> {
         let Some(count) = cursor.nullable_count()? else {
             return Ok(None);
         };
-        let items = read_items(alloc, cursor, count)?;
+        let items = decode_items(alloc, cursor, count)?;
         Ok(Some(items))
     }
 

@@ -7,9 +7,9 @@ ghost use Rattle.wire_layout.specs.Layout.{ReachesOrWants, bytes, nullable_bytes
 
 use gate_io::{Items, Want};
 use std::alloc::Global;
-use wire_prim::{Cursor, PrimNo, put_bytes, put_int32};
+use wire_prim::{Cursor, PrimNo, put_bytes, put_nullable_bytes};
 
-/// More than 2,147,483,647 bytes are answered by want.
+/// BYTES. More than 2,147,483,647 are answered by want.
 pub fn put_piece(out: &mut Vec<u8>, piece: &Items<u8>) -> Result<(), Want>
     ensures ok { OnOk result (out.new.items ≡ out.old.items ++ bytes.spelling piece.now) }
     ensures fits { OnOk result (bytes.fits piece.now) }
@@ -21,18 +21,20 @@ pub fn put_piece(out: &mut Vec<u8>, piece: &Items<u8>) -> Result<(), Want>
     put_bytes(out, piece)
 }
 
+/// NULLABLE_BYTES. More than 2,147,483,647 are answered by want.
 pub fn put_nullable_piece(out: &mut Vec<u8>, piece: &Option<Items<u8>>) -> Result<(), Want>
     ensures ok { OnOk result (out.new.items ≡ out.old.items ++ nullable_bytes.spelling piece.now) }
     ensures fits { OnOk result (nullable_bytes.fits piece.now) }
 {
     match piece {
-        Some(piece) => put_piece(out, piece),
-        None => put_int32(out, -1),
+        Some(piece) if piece.len() > 0x7fff_ffff => Err(Want),
+        Some(piece) => put_nullable_bytes(out, Some(piece.as_slice())),
+        None => put_nullable_bytes(out, None),
     }
 }
 
-/// A refusal leaves the cursor at the length.
-pub fn read_piece(alloc: Global, cursor: &mut Cursor) -> Result<Items<u8>, PrimNo>
+/// BYTES where the cursor stands. A refusal leaves it there, at the length.
+pub fn decode_piece(alloc: Global, cursor: &mut Cursor) -> Result<Items<u8>, PrimNo>
     ensures value { IfOk result (λ m. Takes (bytes.spelling m) cursor.old cursor.new) }
     ensures fits { IfOk result (λ m. bytes.fits m) }
     ensures answer { ReachesOrWants result (bytes.behind cursor.old.left) cursor.new.left }
@@ -41,8 +43,11 @@ pub fn read_piece(alloc: Global, cursor: &mut Cursor) -> Result<Items<u8>, PrimN
     Ok(Items::from_vec(piece))
 }
 
-/// A refusal leaves the cursor at the length.
-pub fn read_nullable_piece(alloc: Global, cursor: &mut Cursor) -> Result<Option<Items<u8>>, PrimNo>
+/// NULLABLE_BYTES where the cursor stands. A refusal leaves it there, at the length.
+pub fn decode_nullable_piece(
+    alloc: Global,
+    cursor: &mut Cursor,
+) -> Result<Option<Items<u8>>, PrimNo>
     ensures value { IfOk result (λ m. Takes (nullable_bytes.spelling m) cursor.old cursor.new) }
     ensures fits { IfOk result (λ m. nullable_bytes.fits m) }
     ensures answer { ReachesOrWants result (nullable_bytes.behind cursor.old.left) cursor.new.left }

@@ -6,7 +6,9 @@ ghost use Rattle.wire_layout.specs.ItemLaws.{int8_laid, int16_laid, int32_laid, 
 use crate::laid::{Laid, Put};
 use gate_io::{Text, Want};
 use std::alloc::Global;
-use wire_prim::{Cursor, PrimNo, put_int8, put_int16, put_int32, put_int64, put_string};
+use wire_prim::{
+    Cursor, PrimNo, put_int8, put_int16, put_int32, put_int64, put_nullable_string, put_string,
+};
 
 #[tactic(auto, unfolding(crate::specs::Layout::int8))]
 impl Put for i8 {
@@ -19,7 +21,7 @@ impl Put for i8 {
 
 #[tactic(auto, using(crate::proofs::Places::reaches), unfolding(crate::specs::Layout::int8))]
 impl Laid for i8 {
-    fn read(alloc: Global, cursor: &mut Cursor) -> Result<i8, PrimNo> {
+    fn decode(alloc: Global, cursor: &mut Cursor) -> Result<i8, PrimNo> {
         let _ = alloc;
         cursor.int8()
     }
@@ -38,7 +40,7 @@ impl Put for i16 {
 
 #[tactic(auto, using(crate::proofs::Places::reaches), unfolding(crate::specs::Layout::int16))]
 impl Laid for i16 {
-    fn read(alloc: Global, cursor: &mut Cursor) -> Result<i16, PrimNo> {
+    fn decode(alloc: Global, cursor: &mut Cursor) -> Result<i16, PrimNo> {
         let _ = alloc;
         cursor.int16()
     }
@@ -57,7 +59,7 @@ impl Put for i32 {
 
 #[tactic(auto, using(crate::proofs::Places::reaches), unfolding(crate::specs::Layout::int32))]
 impl Laid for i32 {
-    fn read(alloc: Global, cursor: &mut Cursor) -> Result<i32, PrimNo> {
+    fn decode(alloc: Global, cursor: &mut Cursor) -> Result<i32, PrimNo> {
         let _ = alloc;
         cursor.int32()
     }
@@ -76,7 +78,7 @@ impl Put for i64 {
 
 #[tactic(auto, using(crate::proofs::Places::reaches), unfolding(crate::specs::Layout::int64))]
 impl Laid for i64 {
-    fn read(alloc: Global, cursor: &mut Cursor) -> Result<i64, PrimNo> {
+    fn decode(alloc: Global, cursor: &mut Cursor) -> Result<i64, PrimNo> {
         let _ = alloc;
         cursor.int64()
     }
@@ -99,7 +101,7 @@ impl Put for Text {
 
 #[tactic(auto, using(crate::proofs::Places::stops), unfolding(crate::specs::Layout::string))]
 impl Laid for Text {
-    fn read(alloc: Global, cursor: &mut Cursor) -> Result<Text, PrimNo> {
+    fn decode(alloc: Global, cursor: &mut Cursor) -> Result<Text, PrimNo> {
         let text = cursor.string(alloc)?;
         Ok(Text::from_string(text))
     }
@@ -113,15 +115,16 @@ impl Put for Option<Text> {
 
     fn put(&self, out: &mut Vec<u8>) -> Result<(), Want> {
         match self {
-            Some(text) => text.put(out),
-            None => put_int16(out, -1),
+            Some(text) if text.as_str().len() > 0x7fff => Err(Want),
+            Some(text) => put_nullable_string(out, Some(text.as_str())),
+            None => put_nullable_string(out, None),
         }
     }
 }
 
 #[tactic(auto, using(crate::proofs::Places::stops), unfolding(crate::specs::Layout::nullable_string))]
 impl Laid for Option<Text> {
-    fn read(alloc: Global, cursor: &mut Cursor) -> Result<Option<Text>, PrimNo> {
+    fn decode(alloc: Global, cursor: &mut Cursor) -> Result<Option<Text>, PrimNo> {
         match cursor.nullable_string(alloc)? {
             Some(text) => Ok(Some(Text::from_string(text))),
             None => Ok(None),

@@ -20,8 +20,8 @@ pub trait Put {
 
 /// A value that can be read too, and is told by its bytes.
 pub trait Laid: Put {
-    /// Reads it. After a refusal, but for want of memory, the cursor stands at the first byte of the item that doesn't read.
-    fn read(alloc: Global, cursor: &mut Cursor) -> Result<Self, PrimNo>
+    /// Reads it where the cursor stands. After a refusal, but for want of memory, the cursor stands at the first byte of the item that doesn't read.
+    fn decode(alloc: Global, cursor: &mut Cursor) -> Result<Self, PrimNo>
         ensures value { IfOk result (λ m. Takes (Self.layout.spelling m) cursor.old cursor.new) }
         ensures fits { IfOk result (λ m. Self.layout.fits m) }
         ensures answer { ReachesOrWants result (Self.layout.behind cursor.old.left) cursor.new.left };

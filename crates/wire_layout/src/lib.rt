@@ -8,7 +8,7 @@ mod item;
 mod laid;
 mod whole;
 
-pub use bytes::{put_nullable_piece, put_piece, read_nullable_piece, read_piece};
+pub use bytes::{decode_nullable_piece, decode_piece, put_nullable_piece, put_piece};
 pub use error::{Refusal, WireNo};
 pub use laid::{Laid, Message, Put};
 pub use whole::{

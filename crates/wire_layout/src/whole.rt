@@ -35,7 +35,7 @@ pub fn read_whole_placed<T: Laid + Drop>(alloc: Global, bytes: &[u8]) -> Result<
     ensures place { IfErr result (λ refusal. IsPlaced refusal (T.layout.behind bytes.now) bytes.now) }
 {
     let mut cursor = Cursor::new(bytes);
-    let message = match T::read(alloc, &mut cursor) {
+    let message = match T::decode(alloc, &mut cursor) {
         Ok(message) => message,
         Err(cause) => return Err(refusal_at(refusal_of(cause), bytes.len(), cursor.left())),
     };
@@ -63,7 +63,7 @@ pub fn read_front_placed<T: Laid + Drop>(alloc: Global, bytes: &[u8]) -> Result<
     ensures place { IfErr result (λ refusal. IsPlaced refusal (T.layout.behind bytes.now) bytes.now) }
 {
     let mut cursor = Cursor::new(bytes);
-    match T::read(alloc, &mut cursor) {
+    match T::decode(alloc, &mut cursor) {
         Ok(value) => {
             let size = cursor.place();
             Ok((value, size))

@@ -30,7 +30,7 @@ fn after_eight(crc: u32, bytes: &[u8; 8]) -> u32
     first ^ (second ^ (third ^ (fourth ^ rest)))
 }
 
-/// The checksum of a record batch, a CRC-32C.
+/// The checksum of a record batch, a CRC-32C (RFC 3720, section 12.1). Of no bytes it is 0.
 #[tactic(auto, unfolding(crate::specs::Crc::checksum))]
 pub fn crc32c(bytes: &[u8]) -> u32
     ensures { result ≡ checksum bytes.now }

@@ -29,6 +29,7 @@ impl<'a> Model for Cursor<'a> {
 }
 
 impl<'a> Cursor<'a> {
+    /// A cursor at the first byte.
     pub fn new(bytes: &'a [u8]) -> Cursor<'a>
         ensures { result ≡ record { place = 0; left = bytes.now } }
     {
@@ -59,6 +60,7 @@ impl<'a> Cursor<'a> {
         self.rest.len()
     }
 
+    /// An INT8: one byte, in two's complement. `Short` where none is left.
     pub fn int8(&mut self) -> Result<i8, PrimNo>
         ensures value { IfOk result (λ value. Takes (int8_bytes value) self.old self.new) }
         ensures at { IfOk result (λ value. value ≡ int8_at self.old.left) }
@@ -73,7 +75,7 @@ impl<'a> Cursor<'a> {
         Ok(a.cast_signed())
     }
 
-    /// A big-endian integer, as the next two.
+    /// An INT16: two bytes, the higher one first. `Short` where fewer are left.
     pub fn int16(&mut self) -> Result<i16, PrimNo>
         ensures value { IfOk result (λ value. Takes (int16_bytes value) self.old self.new) }
         ensures at { IfOk result (λ value. value ≡ int16_at self.old.left) }
@@ -88,6 +90,7 @@ impl<'a> Cursor<'a> {
         Ok(i16::from_be_bytes([*a, *b]))
     }
 
+    /// An INT32: four bytes, the highest first. `Short` where fewer are left.
     pub fn int32(&mut self) -> Result<i32, PrimNo>
         ensures value { IfOk result (λ value. Takes (int32_bytes value) self.old self.new) }
         ensures at { IfOk result (λ value. value ≡ int32_at self.old.left) }
@@ -102,6 +105,7 @@ impl<'a> Cursor<'a> {
         Ok(i32::from_be_bytes([*a, *b, *c, *d]))
     }
 
+    /// An INT64: eight bytes, the highest first. `Short` where fewer are left.
     pub fn int64(&mut self) -> Result<i64, PrimNo>
         ensures value { IfOk result (λ value. Takes (int64_bytes value) self.old self.new) }
         ensures at { IfOk result (λ value. value ≡ int64_at self.old.left) }
@@ -126,7 +130,7 @@ impl<'a> Cursor<'a> {
         }
     }
 
-    /// That many bytes.
+    /// That many bytes. `Short` where fewer are left.
     pub fn piece(&mut self, count: usize) -> Result<&'a [u8], PrimNo>
         ensures value { IfOk result (λ piece. Takes piece.now self.old self.new × (length piece.now ≡ count)) }
         ensures answer { Answers result (behind_bytes count self.old.left) self.new.left }
@@ -140,7 +144,7 @@ impl<'a> Cursor<'a> {
         Ok(piece)
     }
 
-    /// A cursor over that many bytes, which are read here.
+    /// A cursor over that many bytes, which are read here. Its places go on from here. `Short` where fewer are left.
     pub fn part(&mut self, count: usize) -> Result<Cursor<'a>, PrimNo>
         ensures value { IfOk result (λ part.
             Takes part.left self.old self.new
@@ -165,7 +169,7 @@ impl<'a> Cursor<'a> {
         self.piece(size as usize)
     }
 
-    /// A text of a length that was read.
+    /// A text of so many bytes: a length that was read. `Negative` below 0, `BadUtf8` where the bytes aren't UTF-8.
     pub fn text(&mut self, size: i32) -> Result<&'a str, PrimNo>
         ensures value { IfOk result (λ text. Takes text.now self.old self.new × (size ≡ pos (length text.now))) }
         ensures answer { Answers result (behind_text size self.old.left) self.new.left }
@@ -182,7 +186,7 @@ impl<'a> Cursor<'a> {
         }
     }
 
-    /// A text behind its length.
+    /// A STRING: an INT16, the number of bytes, and the text in UTF-8. A length below 0 is `Negative`.
     pub fn string(&mut self, alloc: Global) -> Result<String, PrimNo>
         ensures value { IfOk result (λ text. Takes (string_item (string_bytes text)) self.old self.new) }
         ensures bound { IfOk result (λ text. length (string_bytes text) < 2 ^ 15) }
@@ -200,6 +204,7 @@ impl<'a> Cursor<'a> {
         Ok(text)
     }
 
+    /// BYTES: an INT32, their number, and the bytes. A number below 0 is `Negative`.
     pub fn bytes(&mut self, alloc: Global) -> Result<Vec<u8>, PrimNo>
         ensures value { IfOk result (λ bytes. Takes (bytes_item bytes.items) self.old self.new) }
         ensures answer { AnswersOrWants result (behind_bytes_item self.old.left) self.new.left }
@@ -213,7 +218,7 @@ impl<'a> Cursor<'a> {
         Ok(bytes)
     }
 
-    /// The length of an array.
+    /// The number of items that stands before those of an ARRAY, an INT32. Below 0 it is `Negative`.
     pub fn count(&mut self) -> Result<u32, PrimNo>
         ensures value { IfOk result (λ count. Takes (count_item count) self.old self.new) }
         ensures bound { IfOk result (λ count. count < 2 ^ 31) }
@@ -230,7 +235,7 @@ impl<'a> Cursor<'a> {
         Ok(size as u32)
     }
 
-    /// A text behind its length, or null.
+    /// A NULLABLE_STRING: a STRING, or the length -1 for null. A length below -1 is `Negative`.
     pub fn nullable_string(&mut self, alloc: Global) -> Result<Option<String>, PrimNo>
         ensures value { IfOk result (λ text.
             Takes (nullable_string_item (option_map string_bytes text)) self.old self.new) }
@@ -253,6 +258,7 @@ impl<'a> Cursor<'a> {
         Ok(Some(text))
     }
 
+    /// NULLABLE_BYTES: BYTES, or the number -1 for null. A number below -1 is `Negative`.
     pub fn nullable_bytes(&mut self, alloc: Global) -> Result<Option<Vec<u8>>, PrimNo>
         ensures value { IfOk result (λ bytes.
             Takes (nullable_bytes_item (option_map (λ b. b.items) bytes)) self.old self.new) }
@@ -271,7 +277,7 @@ impl<'a> Cursor<'a> {
         Ok(Some(bytes))
     }
 
-    /// The length of an array that may be null.
+    /// The number of items of an ARRAY that may be null: -1 is null. Below -1 it is `Negative`.
     pub fn nullable_count(&mut self) -> Result<Option<u32>, PrimNo>
         ensures value { IfOk result (λ count. Takes (nullable_count_item count) self.old self.new) }
         ensures bound { IfOk result (λ count. IfSome count (λ n. n < 2 ^ 31)) }
@@ -346,7 +352,8 @@ impl<'a> Cursor<'a> {
         Ok(unzigzag(u64::from(number)) as i32)
     }
 
-    /// A VARINT, which may be longer than it needs within its 5 bytes.
+    /// A VARINT: a zigzag integer of 32 bits in at most 5 bytes, of which it may have more than it needs. `TooLong` where a
+    /// fifth byte says that another follows, or the value doesn't fit.
     pub fn varint(&mut self) -> Result<i32, PrimNo>
         ensures value { IfOk result (λ value.
             IsVarint 5 value (run_of self.old.left)
@@ -379,7 +386,8 @@ impl<'a> Cursor<'a> {
         Ok(unzigzag(number))
     }
 
-    /// A VARLONG, which may be longer than it needs within its 10 bytes.
+    /// A VARLONG: a zigzag integer of 64 bits in at most 10 bytes, of which it may have more than it needs. `TooLong` where
+    /// a tenth byte says that another follows, or the value doesn't fit.
     pub fn varlong(&mut self) -> Result<i64, PrimNo>
         ensures value { IfOk result (λ value.
             IsVarint 10 value (run_of self.old.left)

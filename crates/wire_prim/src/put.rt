@@ -1,4 +1,5 @@
-//! Writes the items of a message. Want of memory leaves what is written so far as it was.
+//! Writes the items of a message (Kafka protocol guide, "Protocol Primitive Types") behind what is written so far. Want of
+//! memory leaves that as it was.
 ghost use Rattle.std.specs.Prelude.{ℕ, List, ◌≡◌, ◌+◌, ◌<◌, ◌≤◌, ◌^◌, ◌++◌, length, option_map, OnOk, OnErr};
 ghost use Rattle.std.specs.Option.{ForSome};
 ghost use Rattle.wire_prim.specs.Item.{bytes_item, count_item, int8_bytes, int16_bytes, int32_bytes, int64_bytes, nullable_bytes_item, nullable_count_item, nullable_string_item, string_item};
@@ -33,6 +34,7 @@ fn put_behind(out: &mut Vec<u8>, size: &[u8], piece: &[u8]) -> Result<(), Want>
     result
 }
 
+/// An INT8: one byte.
 pub fn put_int8(out: &mut Vec<u8>, value: i8) -> Result<(), Want>
     ensures ok { OnOk result (out.new.items ≡ out.old.items ++ int8_bytes value) }
     ensures stays { OnErr result (out.new.items ≡ out.old.items) }
@@ -41,6 +43,7 @@ pub fn put_int8(out: &mut Vec<u8>, value: i8) -> Result<(), Want>
     put(out, &value.to_be_bytes())
 }
 
+/// An INT16: two bytes, the higher one first.
 pub fn put_int16(out: &mut Vec<u8>, value: i16) -> Result<(), Want>
     ensures ok { OnOk result (out.new.items ≡ out.old.items ++ int16_bytes value) }
     ensures stays { OnErr result (out.new.items ≡ out.old.items) }
@@ -49,6 +52,7 @@ pub fn put_int16(out: &mut Vec<u8>, value: i16) -> Result<(), Want>
     put(out, &value.to_be_bytes())
 }
 
+/// An INT32: four bytes, the highest first.
 pub fn put_int32(out: &mut Vec<u8>, value: i32) -> Result<(), Want>
     ensures ok { OnOk result (out.new.items ≡ out.old.items ++ int32_bytes value) }
     ensures stays { OnErr result (out.new.items ≡ out.old.items) }
@@ -57,6 +61,7 @@ pub fn put_int32(out: &mut Vec<u8>, value: i32) -> Result<(), Want>
     put(out, &value.to_be_bytes())
 }
 
+/// An INT64: eight bytes, the highest first.
 pub fn put_int64(out: &mut Vec<u8>, value: i64) -> Result<(), Want>
     ensures ok { OnOk result (out.new.items ≡ out.old.items ++ int64_bytes value) }
     ensures stays { OnErr result (out.new.items ≡ out.old.items) }
@@ -65,7 +70,7 @@ pub fn put_int64(out: &mut Vec<u8>, value: i64) -> Result<(), Want>
     put(out, &value.to_be_bytes())
 }
 
-/// The text has at most 32,767 bytes.
+/// A STRING: the number of its bytes as an INT16, and the text, which has at most 32,767 bytes.
 pub fn put_string(out: &mut Vec<u8>, value: &str) -> Result<(), Want>
     requires { length value.now < 2 ^ 15 }
     ensures ok { OnOk result (out.new.items ≡ out.old.items ++ string_item value.now) }
@@ -76,6 +81,7 @@ pub fn put_string(out: &mut Vec<u8>, value: &str) -> Result<(), Want>
     put_behind(out, &size.to_be_bytes(), value.as_bytes())
 }
 
+/// A NULLABLE_STRING: a STRING of at most 32,767 bytes, or -1 as an INT16 for null.
 pub fn put_nullable_string(out: &mut Vec<u8>, value: Option<&str>) -> Result<(), Want>
     requires { ForSome value (λ text. length text.now < 2 ^ 15) }
     ensures ok { OnOk result (out.new.items
@@ -90,6 +96,7 @@ pub fn put_nullable_string(out: &mut Vec<u8>, value: Option<&str>) -> Result<(),
     }
 }
 
+/// BYTES: their number as an INT32, and the bytes, which are at most 2,147,483,647.
 pub fn put_bytes(out: &mut Vec<u8>, value: &[u8]) -> Result<(), Want>
     requires { length value.now < 2 ^ 31 }
     ensures ok { OnOk result (out.new.items ≡ out.old.items ++ bytes_item value.now) }
@@ -100,6 +107,7 @@ pub fn put_bytes(out: &mut Vec<u8>, value: &[u8]) -> Result<(), Want>
     put_behind(out, &size.to_be_bytes(), value)
 }
 
+/// NULLABLE_BYTES: BYTES, at most 2,147,483,647, or -1 as an INT32 for null.
 pub fn put_nullable_bytes(out: &mut Vec<u8>, value: Option<&[u8]>) -> Result<(), Want>
     requires { ForSome value (λ piece. length piece.now < 2 ^ 31) }
     ensures ok { OnOk result (out.new.items
@@ -114,7 +122,7 @@ pub fn put_nullable_bytes(out: &mut Vec<u8>, value: Option<&[u8]>) -> Result<(),
     }
 }
 
-/// The length of an array.
+/// The number of items of an ARRAY as an INT32, at most 2,147,483,647.
 pub fn put_count(out: &mut Vec<u8>, value: u32) -> Result<(), Want>
     requires { value < 2 ^ 31 }
     ensures ok { OnOk result (out.new.items ≡ out.old.items ++ count_item value) }
@@ -124,6 +132,7 @@ pub fn put_count(out: &mut Vec<u8>, value: u32) -> Result<(), Want>
     put_int32(out, value as i32)
 }
 
+/// The number of items of an ARRAY that may be null: at most 2,147,483,647, or -1 for null.
 pub fn put_nullable_count(out: &mut Vec<u8>, value: Option<u32>) -> Result<(), Want>
     requires { ForSome value (λ count. count < 2 ^ 31) }
     ensures ok { OnOk result (out.new.items ≡ out.old.items ++ nullable_count_item value) }
@@ -158,7 +167,7 @@ fn put_groups(out: &mut Vec<u8>, more: usize, number: u64) -> Result<(), Want>
     put(out, &groups[..count + 1])
 }
 
-/// The shortest spelling.
+/// A VARINT: a zigzag integer of 32 bits, in the fewest bytes that spell it, 1 to 5.
 pub fn put_varint(out: &mut Vec<u8>, value: i32) -> Result<(), Want>
     ensures ok { OnOk result (out.new.items ≡ out.old.items ++ varint_bytes value) }
     ensures stays { OnErr result (out.new.items ≡ out.old.items) }
@@ -169,6 +178,7 @@ pub fn put_varint(out: &mut Vec<u8>, value: i32) -> Result<(), Want>
     put_groups(out, 4, zigzag(i64::from(value)))
 }
 
+/// A VARLONG: a zigzag integer of 64 bits, in the fewest bytes that spell it, 1 to 10.
 pub fn put_varlong(out: &mut Vec<u8>, value: i64) -> Result<(), Want>
     ensures ok { OnOk result (out.new.items ≡ out.old.items ++ varlong_bytes value) }
     ensures stays { OnErr result (out.new.items ≡ out.old.items) }

@@ -1,5 +1,6 @@
 //! What a byte does to a CRC-32C, with 0 to 7 zero bytes behind it.
 
+/// By the number of zero bytes behind, and then by the byte.
 pub static TABLES: [[u32; 256]; 8] = [
     [
         0x00000000, 0xf26b8303, 0xe13b70f7, 0x1350f3f4, 0xc79a971f, 0x35f1141c, 0x26a1e7e8,

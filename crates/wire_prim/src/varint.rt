@@ -39,6 +39,7 @@ pub fn grouped(bytes: &[u8]) -> u128
     }
 }
 
+/// The integer that a zigzag number stands for: 0, -1, 1, -2 and so on in turn.
 pub fn unzigzag(number: u64) -> i64
     ensures { result ≡ unzigzag number }
 {
@@ -46,6 +47,7 @@ pub fn unzigzag(number: u64) -> i64
     if number % 2 == 0 { half } else { -half - 1 }
 }
 
+/// The zigzag number of an integer: twice it, or one less than twice its size below 0.
 pub fn zigzag(value: i64) -> u64
     ensures { result ≡ zigzag value }
 {
@@ -56,7 +58,7 @@ pub fn zigzag(value: i64) -> u64
     }
 }
 
-/// How many bytes the shortest spelling of a VARINT has.
+/// How many bytes the shortest spelling of a VARINT has: 1 to 5.
 pub fn varint_len(value: i32) -> usize
     ensures value { result ≡ length (varint_bytes value) }
     ensures few { result ≤ 5 }

@@ -1,6 +1,6 @@
 use Rattle.std.proofs.Common.{ap}
 use Rattle.wire_prim.specs.Reading.{Reading}
-use Rattle.wire_layout.proofs.Refusals.{not_read, left_over, placed_refusal}
+use Rattle.wire_layout.proofs.Refusals.{not_read, left_over}
 use Rattle.wire_layout.proofs.whole.read_whole_placed.Goals as goal
 
 pub returns-in-Err-clause-read : goal.returns-in-Err-clause-read

@@ -1,7 +1,0 @@
-use Rattle.wire_layout.proofs.Rows.{◌▷◌, kept16, kept32, kept64}
-use Rattle.wire_data.proofs.fetch.FetchResponseRowRowLaid.read.Goals as goal
-
-pub returns-clause-value : goal.returns-clause-value
-returns-clause-value c =
-    rw (kept32 c.in_ok-partition.partition c.in_ok-partition.ensures.fits, kept16 c.in_ok-code.code c.in_ok-code.ensures.fits, kept64 c.in_ok-high_watermark.high_watermark c.in_ok-high_watermark.ensures.fits, kept64 c.in_ok-stable_offset.stable_offset c.in_ok-stable_offset.ensures.fits)
-    (c.in_ok-partition.ensures.value ▷ c.in_ok-code.ensures.value ▷ c.in_ok-high_watermark.ensures.value ▷ c.in_ok-stable_offset.ensures.value ▷ c.in_ok-rows.ensures.value ▷ c.in_ok-batches.ensures.value)

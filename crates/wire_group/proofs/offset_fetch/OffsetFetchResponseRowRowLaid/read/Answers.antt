@@ -1,7 +1,0 @@
-use Rattle.wire_layout.proofs.Rows.{◌▷◌, kept16, kept32, kept64}
-use Rattle.wire_group.proofs.offset_fetch.OffsetFetchResponseRowRowLaid.read.Goals as goal
-
-pub returns-clause-value : goal.returns-clause-value
-returns-clause-value c =
-    rw (kept32 c.in_ok-partition.partition c.in_ok-partition.ensures.fits, kept64 c.in_ok-offset.offset c.in_ok-offset.ensures.fits, kept16 c.in_ok-code.code c.in_ok-code.ensures.fits)
-    (c.in_ok-partition.ensures.value ▷ c.in_ok-offset.ensures.value ▷ c.in_ok-metadata.ensures.value ▷ c.in_ok-code.ensures.value)
