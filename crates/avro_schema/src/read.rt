@@ -12,7 +12,7 @@ ghost use Rattle.avro_schema.specs.Forms.{type_at, types_of, EachBefore};
 ghost use Rattle.avro_schema.specs.Building.{Finished, Ends, FormReads};
 
 use crate::canonical::write_type;
-use crate::parts::{Form, Parts};
+use crate::parts::{Form, NAME_ROOM, Parts};
 use crate::reader::read_type;
 use crate::schema::Schema;
 use avro_names::{Definitions, SchemaNo};
@@ -58,6 +58,7 @@ fn read_value(alloc: Global, canonical: bool, tree: &Tree) -> Result<Schema, Sch
         nodes: Vec::new(alloc),
         definitions: Definitions::new(alloc),
         root: 0,
+        room: NAME_ROOM,
     };
     match read_type(
         alloc,
@@ -94,12 +95,14 @@ fn whole(parts: Parts, root: u32) -> Schema
         nodes,
         definitions,
         root: _,
+        room,
     } = parts;
     Schema {
         parts: Parts {
             nodes,
             definitions,
             root,
+            room,
         },
     }
 }
