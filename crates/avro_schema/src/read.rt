@@ -119,7 +119,8 @@ fn read_text(alloc: Global, canonical: bool, text: &str) -> Result<Schema, Schem
 }
 
 impl Schema {
-    /// Reads a schema (Apache Avro 1.11 specification, "Schema Declaration").
+    /// Reads a schema (Apache Avro 1.11 specification, "Schema Declaration"). Fullnames of more than 16,777,216 bytes together are want
+    /// of memory.
     pub fn read(alloc: Global, text: &str) -> Result<Schema, SchemaNo>
         // The text is a JSON text of a value that is this schema.
         ensures ok { IfOk result (λ s. ReadsAs false text.now (tree_of s)) }
