@@ -4,14 +4,14 @@ use Rattle.std.specs.List.{flat_map}
 use Rattle.std.proofs.lemmas.Bool.{cases_Bool, eqb-true, eqb-false}
 use Rattle.std.proofs.lemmas.List.Concat.{flat_map-cons}
 use Rattle.avro_codec.specs.declared.cursor.Head.{Head}
-use Rattle.avro_datum.specs.declared.error.AvroNo.TheVariants.{Mismatch}
+use Rattle.avro_value.specs.declared.error.AvroNo.TheVariants.{Mismatch}
 use Rattle.avro_codec.specs.Spelling.{IsLong, Block, joined, pieces_of, block_bytes, IsBlock, AreBlocks}
-use Rattle.avro_datum.specs.Value.{max_nodes}
+use Rattle.avro_value.specs.Value.{max_nodes}
 use Rattle.avro_codec.specs.Reading.{Place, Read, long_at, head_of, head_at, many, with_front, weighs, block_at, blocks}
-use Rattle.avro_datum.specs.Steps.{◌>>=◌}
+use Rattle.avro_value.specs.Steps.{◌>>=◌}
 use Rattle.avro_codec.proofs.DecodeLemmas.{behind_head}
 use Rattle.avro_codec.proofs.ItemSound.{Took, Sound, no_node, long_sound}
-use Rattle.avro_datum.proofs.StepLemmas.{bind_ok, ok_is, chosen_ok}
+use Rattle.avro_value.proofs.StepLemmas.{bind_ok, ok_is, chosen_ok}
 
 -- each of these has a piece
 abbrev pub AllSpelled : {A : Type 0} → (A → List ℕ → Type 0) → List A → List (List ℕ) → Type 0

@@ -11,17 +11,18 @@ use Rattle.avro_schema.specs.Nodes.{SchemaValue, Stands, StandForBranches, Stand
 use Rattle.avro_schema.specs.declared.schema.Kind.{Kind}
 use Rattle.avro_schema.specs.declared.schema.Kind.TheVariants as kinds
 use Rattle.avro_codec.specs.declared.cursor.Head.{Head}
-use Rattle.avro_datum.specs.declared.error.AvroNo.{AvroNo}
-use Rattle.avro_datum.specs.declared.error.AvroNo.TheVariants.{Mismatch, Rest, Want}
+use Rattle.avro_value.specs.declared.error.AvroNo.{AvroNo}
+use Rattle.avro_value.specs.declared.error.AvroNo.TheVariants.{Mismatch, Rest, Want}
 use Rattle.avro_datum.specs.declared.datum.Datum.{Datum}
-use Rattle.avro_datum.specs.Value.{Value, branch, max_levels, value_of}
-use Rattle.avro_datum.specs.Judging.{branch_at}
-use Rattle.avro_datum.specs.Picks.{Picks, is_nesting}
-use Rattle.avro_datum.proofs.PickLemmas.{branch_stands, resolves_is}
+use Rattle.avro_datum.specs.Data.{value_of}
+use Rattle.avro_value.specs.Value.{Value, branch, max_levels}
+use Rattle.avro_value.specs.Judging.{branch_at}
+use Rattle.avro_value.specs.Picks.{Picks, is_nesting}
+use Rattle.avro_value.proofs.PickLemmas.{branch_stands, resolves_is}
 use Rattle.avro_codec.specs.Reading.{Place, Read, Reader, Reads, many, with_front, weighs, head_at, long_at, text_at, block_at, blocks, all_blocks, entry_at, fields_at, picked, branch_of, union_at, giving, body_at, nests, entered, node_at, value_at, below_at, behind, datum_at, ended}
-use Rattle.avro_datum.specs.Steps.{◌>>=◌, Fails}
-use Rattle.avro_datum.proofs.StepLemmas.{bind_at, ok_is}
-use Rattle.avro_datum.proofs.NodeLemmas.{fails_on, fails_along}
+use Rattle.avro_value.specs.Steps.{◌>>=◌, Fails}
+use Rattle.avro_value.proofs.StepLemmas.{bind_at, ok_is}
+use Rattle.avro_value.proofs.NodeLemmas.{fails_on, fails_along}
 
 -- ---- steps
 

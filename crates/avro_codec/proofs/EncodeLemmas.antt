@@ -5,18 +5,20 @@ use Rattle.avro_schema.specs.Types as schema
 use Rattle.avro_schema.specs.Types.{AvroType, Fields, resolved}
 use Rattle.avro_schema.specs.declared.parts.Field.{Field}
 use Rattle.avro_schema.specs.Nodes.{SchemaValue, Stands, tree_of, StandForFields}
-use Rattle.avro_datum.specs.declared.error.AvroNo.{AvroNo}
-use Rattle.avro_datum.specs.declared.error.AvroNo.TheVariants.{Mismatch}
+use Rattle.avro_value.specs.declared.error.AvroNo.{AvroNo}
+use Rattle.avro_value.specs.declared.error.AvroNo.TheVariants.{Mismatch}
 use Rattle.avro_datum.specs.declared.datum.Datum.{Datum}
 use Rattle.avro_datum.specs.declared.datum.MapItem.{MapItem}
-use Rattle.avro_datum.specs.Value as shapes
-use Rattle.avro_datum.specs.Value.{value_of, item_of, values_of, entries_of}
+use Rattle.avro_value.specs.Value as shapes
+use Rattle.avro_datum.specs.Data.{value_of, item_of}
+use Rattle.avro_value.specs.Value.{values_of, entries_of}
 use Rattle.avro_codec.specs.Plain.{plain, plain_values, plain_entries, one_block, long_bytes}
-use Rattle.avro_datum.specs.Value.{size_of, count_of}
-use Rattle.avro_datum.specs.Steps.{Fails}
-use Rattle.avro_datum.specs.Judging.{opened, judged, judged_items, judged_entry, judged_entries, judged_fields, items_in, entries_in, fields_in}
-use Rattle.avro_datum.specs.Picks.{Picks, PicksFields}
-use Rattle.avro_datum.proofs.NodeLemmas.{node_is, node_lacks, fails_along, fails_on, size_is, count_is}
+use Rattle.avro_value.specs.Value.{size_of, count_of}
+use Rattle.avro_value.specs.Steps.{Fails}
+use Rattle.avro_value.specs.Judging.{opened, judged, judged_items, judged_entry, judged_entries, judged_fields, items_in, entries_in, fields_in}
+use Rattle.avro_value.specs.Picks.{Picks, PicksFields}
+use Rattle.avro_datum.proofs.DatumLemmas.{size_is, count_is}
+use Rattle.avro_value.proofs.NodeLemmas.{node_is, node_lacks, fails_along, fails_on}
 
 -- the items of an array so far
 pub record ItemsPut (s : SchemaValue) (below : ℕ) (item first next : ℕ) (all left : List Datum) (before out : List ℕ) : Type 0 where

@@ -10,11 +10,11 @@ use Rattle.avro_codec.specs.declared.cursor.Head.{Head}
 use Rattle.avro_codec.specs.Plain.{flag}
 use Rattle.avro_codec.specs.Spelling.{IsInt, IsLong, IsSized, Block, joined, pieces_of, block_bytes, IsBlock, AreBlocks}
 use Rattle.avro_codec.specs.Reading.{Place, Read, behind, int_at, long_at, run_at, measured, sized_at, utf8, text_at, flag_at, head_of, head_at, many, with_front, block_at, blocks, all_blocks}
-use Rattle.avro_datum.specs.Steps.{◌>>=◌}
+use Rattle.avro_value.specs.Steps.{◌>>=◌}
 use Rattle.avro_codec.proofs.VarintLemmas.{int_read, long_read}
 use Rattle.avro_codec.proofs.DecodeLemmas.{block_is, blocks_are, blocks_end}
 use Rattle.avro_codec.proofs.BlockSound.{joined-cons}
-use Rattle.avro_datum.proofs.StepLemmas.{bind_at}
+use Rattle.avro_value.proofs.StepLemmas.{bind_at}
 
 pub int_again : (k next : ℕ) (n : ℤ) (bs rest : List ℕ) → IsInt n bs → int_at k (behind next (bs ++ rest)) ≡ Ok (n, behind next rest)
 int_again k next n bs rest is = int_read k (behind next (bs ++ rest)) n rest (sym (varint_at_front 5 n bs rest is.spells)) (varint_reads n bs is.fits is.spells rest)

@@ -7,13 +7,13 @@ use Rattle.wire_prim.specs.declared.error.PrimNo.TheVariants.{TooLong, Short as 
 use Rattle.wire_prim.specs.Behind.{Behind}
 use Rattle.wire_prim.specs.Varint.{lead, zigzag, unzigzag, grouped, run_of, varint_at, behind_run, behind_bounded, behind_varint, behind_varlong, IsVarint}
 use Rattle.wire_prim.proofs.VarintLemmas.{run_ends}
-use Rattle.avro_datum.specs.declared.error.AvroNo.TheVariants.{Short, BadUtf8}
+use Rattle.avro_value.specs.declared.error.AvroNo.TheVariants.{Short, BadUtf8}
 use Rattle.avro_codec.specs.Plain.{flag}
 use Rattle.avro_codec.specs.Spelling.{IsInt, IsLong, IsSized}
-use Rattle.avro_datum.specs.Value.{max_nodes}
+use Rattle.avro_value.specs.Value.{max_nodes}
 use Rattle.avro_codec.specs.Reading.{Place, Read, behind, number, int_at, long_at, run_at, measured, sized_at, utf8, text_at, flag_of, flag_at}
 use Rattle.avro_codec.proofs.VarintLemmas.{bounded_ok, int_fits, long_fits}
-use Rattle.avro_datum.proofs.StepLemmas.{bind_ok, ok_is, chosen_ok, chosen_else}
+use Rattle.avro_value.proofs.StepLemmas.{bind_ok, ok_is, chosen_ok, chosen_else}
 
 -- the front of the bytes was read as x, whose nodes were counted
 pub record Took {A : Type 0} (spells : A → List ℕ → Type 0) (count : A → ℕ) (p : Place) (x : A) (q : Place) : Type 0 where

@@ -3,16 +3,16 @@ use Rattle.std.proofs.Common.{◌≡◌, ℕ, suc, ◌+◌, ◌^◌, ◌<◌, �
 use Rattle.std.proofs.lemmas.Bool.{eq-eqb}
 use Rattle.avro_schema.specs.Types as schema
 use Rattle.avro_schema.specs.Types.{AvroType, Branches, Fields, resolved}
-use Rattle.avro_datum.specs.declared.error.AvroNo.{AvroNo}
-use Rattle.avro_datum.specs.declared.error.AvroNo.TheVariants.{Want}
-use Rattle.avro_datum.specs.Value.{Value, Values, Entries, null, boolean, int, long, bytes, string, fixed, symbol, branch, fields, items, entries, no_values, value, no_entries, entry, nodes, nodes_in, nodes_among, IsWithin, AreWithin, EntriesWithin, IsSmall, max_levels, max_nodes}
-use Rattle.avro_datum.specs.Value.{size_of, count_of}
+use Rattle.avro_value.specs.declared.error.AvroNo.{AvroNo}
+use Rattle.avro_value.specs.declared.error.AvroNo.TheVariants.{Want}
+use Rattle.avro_value.specs.Value.{Value, Values, Entries, null, boolean, int, long, bytes, string, fixed, symbol, branch, fields, items, entries, no_values, value, no_entries, entry, nodes, nodes_in, nodes_among, IsWithin, AreWithin, EntriesWithin, IsSmall, max_levels, max_nodes}
+use Rattle.avro_value.specs.Value.{size_of, count_of}
 use Rattle.avro_codec.specs.Spelling.{IsDatum, AreFields, AreItems, AreEntries}
-use Rattle.avro_datum.specs.Steps.{Fails}
-use Rattle.avro_datum.specs.Judging.{Verdict, is_null, is_boolean, is_int, is_long, is_bytes, is_string, is_fixed, has_symbol, number_of, entries_in, leaf, node, is_key, keyed, judged, judged_fields, judged_items, judged_entries, verdict}
-use Rattle.avro_datum.proofs.NodeLemmas.{node_is}
-use Rattle.avro_datum.proofs.StepLemmas.{bind_at}
-use Rattle.avro_datum.proofs.CountLemmas.{below32, below64, opened_is, branch_is, fields_are, items_are, size_few, count_few}
+use Rattle.avro_value.specs.Steps.{Fails}
+use Rattle.avro_value.specs.Judging.{Verdict, is_null, is_boolean, is_int, is_long, is_bytes, is_string, is_fixed, has_symbol, number_of, entries_in, leaf, node, is_key, keyed, judged, judged_fields, judged_items, judged_entries, verdict}
+use Rattle.avro_value.proofs.NodeLemmas.{node_is}
+use Rattle.avro_value.proofs.StepLemmas.{bind_at}
+use Rattle.avro_value.proofs.CountLemmas.{below32, below64, opened_is, branch_is, fields_are, items_are, size_few, count_few}
 
 leaf_is : (k : ℕ) (holds : Bool) → holds ≡ true → k + 1 ≤ max_nodes → leaf k holds ≡ Ok (k + 1)
 leaf_is k holds is few =

@@ -7,15 +7,15 @@ use Rattle.std.proofs.lemmas.List.{append-nil}
 use Rattle.wire_prim.proofs.VarintLaws.{varint_spelled, varlong_spelled}
 use Rattle.avro_schema.specs.Types as schema
 use Rattle.avro_schema.specs.Types.{AvroType, Branches, Fields, resolved}
-use Rattle.avro_datum.specs.declared.error.AvroNo.TheVariants.{Mismatch, TooMany}
-use Rattle.avro_datum.specs.Value.{Value, Values, Entries, null, boolean, int, long, bytes, string, fixed, symbol, branch, fields, items, entries, no_values, value, no_entries, entry, nodes, nodes_in, nodes_among, IsWithin, AreWithin, EntriesWithin, IsSmall, max_levels, max_nodes}
+use Rattle.avro_value.specs.declared.error.AvroNo.TheVariants.{Mismatch, TooMany}
+use Rattle.avro_value.specs.Value.{Value, Values, Entries, null, boolean, int, long, bytes, string, fixed, symbol, branch, fields, items, entries, no_values, value, no_entries, entry, nodes, nodes_in, nodes_among, IsWithin, AreWithin, EntriesWithin, IsSmall, max_levels, max_nodes}
 use Rattle.avro_codec.specs.Plain.{int_bytes, long_bytes, sized, one_block, plain, plain_values, plain_entries}
-use Rattle.avro_datum.specs.Value.{size_of, count_of}
+use Rattle.avro_value.specs.Value.{size_of, count_of}
 use Rattle.avro_codec.specs.Spelling.{IsInt, IsLong, IsSized, Block, joined, AreBlocks, IsDatum, AreFields, AreItems, AreEntries}
-use Rattle.avro_datum.specs.Judging.{branch_at}
-use Rattle.avro_datum.specs.Judging.{Verdict, is_null, is_boolean, is_int, is_long, is_bytes, is_string, is_fixed, has_symbol, branch_in, number_of, fields_in, items_in, entries_in, is_below, matched, leaf, opened, inside, node, is_key, keyed, judged, judged_fields, judged_items, judged_entries, verdict}
+use Rattle.avro_value.specs.Judging.{branch_at}
+use Rattle.avro_value.specs.Judging.{Verdict, is_null, is_boolean, is_int, is_long, is_bytes, is_string, is_fixed, has_symbol, branch_in, number_of, fields_in, items_in, entries_in, is_below, matched, leaf, opened, inside, node, is_key, keyed, judged, judged_fields, judged_items, judged_entries, verdict}
 use Rattle.avro_codec.proofs.BlockSound.{joined-cons}
-use Rattle.avro_datum.proofs.StepLemmas.{bind_ok, ok_is, chosen_ok}
+use Rattle.avro_value.proofs.StepLemmas.{bind_ok, ok_is, chosen_ok}
 
 -- ---- tests and types
 

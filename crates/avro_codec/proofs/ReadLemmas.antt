@@ -3,9 +3,9 @@ use Rattle.std.proofs.Common.{◌≡◌, ℕ, List, Ok, false, inr, refl, sym, a
 use Rattle.std.specs.Str.{is_utf8, IsUtf8}
 use Rattle.std.proofs.lemmas.Bool.{false_from_ne_true}
 use Rattle.std.proofs.lemmas.Str.{is_utf8-from_IsUtf8, IsUtf8-from_is_utf8}
-use Rattle.avro_datum.specs.declared.error.AvroNo.TheVariants.{BadUtf8}
+use Rattle.avro_value.specs.declared.error.AvroNo.TheVariants.{BadUtf8}
 use Rattle.avro_codec.specs.Reading.{Place, Read, sized_at, text_at, utf8}
-use Rattle.avro_datum.specs.Steps.{◌>>=◌, Fails}
+use Rattle.avro_value.specs.Steps.{◌>>=◌, Fails}
 
 pub text_read : (k : ℕ) (p : Place) (piece text : List ℕ) (q : Place) → sized_at k p ≡ Ok (piece, q) → text ≡ piece → IsUtf8 piece → text_at k p ≡ Ok (text, q)
 unfolding text_at

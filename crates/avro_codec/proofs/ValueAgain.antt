@@ -4,14 +4,14 @@ use Rattle.std.proofs.lemmas.Bool.{ne_eqb}
 use Rattle.std.proofs.lemmas.List.{append-nil, take_at}
 use Rattle.avro_schema.specs.Types as schema
 use Rattle.avro_schema.specs.Types.{AvroType, Branches, Fields, resolved}
-use Rattle.avro_datum.specs.Value.{Value, Values, Entries, Entry, null, boolean, int, long, bytes, string, fixed, symbol, branch, fields, items, entries, no_values, value, no_entries, entry, values_of, entries_of, nodes, nodes_in, nodes_among, IsWithin, AreWithin, EntriesWithin, IsSmall, max_levels, max_nodes}
+use Rattle.avro_value.specs.Value.{Value, Values, Entries, Entry, null, boolean, int, long, bytes, string, fixed, symbol, branch, fields, items, entries, no_values, value, no_entries, entry, values_of, entries_of, nodes, nodes_in, nodes_among, IsWithin, AreWithin, EntriesWithin, IsSmall, max_levels, max_nodes}
 use Rattle.avro_codec.specs.Spelling.{IsInt, IsLong, IsDatum, AreFields, AreItems, AreEntries}
-use Rattle.avro_datum.specs.Judging.{branch_at}
+use Rattle.avro_value.specs.Judging.{branch_at}
 use Rattle.avro_codec.specs.Reading.{Place, Reader, behind, int_at, long_at, fields_at, entry_at, picked, branch_of, union_at, symbol_of, enum_at, body_at, nests, entered, node_at, value_at, below_at, ended, datum_at}
-use Rattle.avro_datum.specs.Steps.{◌>>=◌}
+use Rattle.avro_value.specs.Steps.{◌>>=◌}
 use Rattle.avro_codec.proofs.DecodeLemmas.{value_is, giving_read, picked_read, entry_read}
 use Rattle.avro_codec.proofs.ItemAgain.{int_again, long_again, run_again, sized_again, text_again, flag_again, ReadsEach, all_blocks_again}
-use Rattle.avro_datum.proofs.StepLemmas.{bind_at, ok_is}
+use Rattle.avro_value.proofs.StepLemmas.{bind_at, ok_is}
 
 -- ---- a node
 

@@ -5,15 +5,15 @@ use Rattle.std.proofs.lemmas.Bool.{cases_Bool, eqb-true}
 use Rattle.std.proofs.lemmas.List.{append-nil, nil_from_length}
 use Rattle.avro_schema.specs.Types as schema
 use Rattle.avro_schema.specs.Types.{AvroType, Branches, Fields, resolved}
-use Rattle.avro_datum.specs.declared.error.AvroNo.TheVariants.{Mismatch, TooDeep, TooMany, Rest}
-use Rattle.avro_datum.specs.Value.{Value, Entry, null, boolean, int, long, bytes, string, fixed, symbol, branch, fields, items, entries, values_of, entries_of, nodes, nodes_in, nodes_among, IsWithin, AreWithin, EntriesWithin, IsSmall, max_levels, max_nodes}
+use Rattle.avro_value.specs.declared.error.AvroNo.TheVariants.{Mismatch, TooDeep, TooMany, Rest}
+use Rattle.avro_value.specs.Value.{Value, Entry, null, boolean, int, long, bytes, string, fixed, symbol, branch, fields, items, entries, values_of, entries_of, nodes, nodes_in, nodes_among, IsWithin, AreWithin, EntriesWithin, IsSmall, max_levels, max_nodes}
 use Rattle.avro_codec.specs.Spelling.{IsInt, IsLong, IsSized, IsDatum, AreFields, AreItems, AreEntries}
-use Rattle.avro_datum.specs.Judging.{branch_at}
+use Rattle.avro_value.specs.Judging.{branch_at}
 use Rattle.avro_codec.specs.Reading.{Place, Read, Reader, behind, int_at, long_at, text_at, fields_at, entry_at, picked, branch_of, union_at, symbol_of, enum_at, giving, body_at, nests, entered, node_at, too_deep, value_at, all_blocks, ended, datum_at}
-use Rattle.avro_datum.specs.Steps.{◌>>=◌}
+use Rattle.avro_value.specs.Steps.{◌>>=◌}
 use Rattle.avro_codec.proofs.ItemSound.{Took, Sound, no_node, int_sound, long_sound, run_sound, sized_sound, text_sound, flag_sound, IsString, IsFlag}
 use Rattle.avro_codec.proofs.BlockSound.{AllSpelled, total, blocks_sound}
-use Rattle.avro_datum.proofs.StepLemmas.{bind_ok, ok_is, chosen_ok, chosen_else}
+use Rattle.avro_value.proofs.StepLemmas.{bind_ok, ok_is, chosen_ok, chosen_else}
 
 -- the value's bytes, with so many levels
 abbrev pub Spells : ℕ → AvroType → AvroType → Value → List ℕ → Type 0

@@ -6,9 +6,9 @@ use Rattle.wire_prim.specs.declared.error.PrimNo.{PrimNo}
 use Rattle.wire_prim.specs.declared.error.PrimNo.TheVariants.{TooLong}
 use Rattle.wire_prim.specs.Behind.{Behind, next}
 use Rattle.wire_prim.specs.Varint.{unzigzag, grouped, run_of, varint_at, behind_run, behind_bounded, behind_varint, behind_varlong}
-use Rattle.avro_datum.specs.declared.error.AvroNo.{AvroNo}
+use Rattle.avro_value.specs.declared.error.AvroNo.{AvroNo}
 use Rattle.avro_codec.specs.Reading.{Place, Read, behind, stopped, number, int_at, long_at}
-use Rattle.avro_datum.specs.Steps.{Fails}
+use Rattle.avro_value.specs.Steps.{Fails}
 
 pub next_ok : (b : Behind) (f : List ℕ → Behind) (rest : List ℕ) → next b f ≡ Ok rest → (x : List ℕ) × (b ≡ Ok x) × (f x ≡ Ok rest)
 next_ok (Ok x) f rest is = (x, refl, is)

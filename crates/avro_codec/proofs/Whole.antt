@@ -2,20 +2,21 @@
 use Rattle.std.proofs.Common.{◌≡◌, ◌++◌, [], ℕ, List, Result, Ok, Err, sym, ap, ◌∙◌, subst, inl, inr}
 use Rattle.std.specs.Prelude.{IfOk, IfErr, OnOk, MatchResult}
 use Rattle.avro_schema.specs.Types.{AvroType}
-use Rattle.avro_datum.specs.declared.error.AvroNo.{AvroNo}
-use Rattle.avro_datum.specs.declared.error.AvroNo.TheVariants.{Want}
+use Rattle.avro_value.specs.declared.error.AvroNo.{AvroNo}
+use Rattle.avro_value.specs.declared.error.AvroNo.TheVariants.{Want}
 use Rattle.avro_datum.specs.declared.datum.Datum.{Datum}
-use Rattle.avro_datum.specs.Value.{Value, IsSmall, value_of}
+use Rattle.avro_datum.specs.Data.{value_of}
+use Rattle.avro_value.specs.Value.{Value, IsSmall}
 use Rattle.avro_codec.specs.Spelling.{IsDatum}
 use Rattle.avro_codec.specs.Plain.{plain}
 use Rattle.avro_codec.specs.Reading.{datum_at}
-use Rattle.avro_datum.specs.Steps.{Fails}
-use Rattle.avro_datum.specs.Judging.{verdict}
+use Rattle.avro_value.specs.Steps.{Fails}
+use Rattle.avro_value.specs.Judging.{verdict}
 use Rattle.avro_codec.proofs.ValueSound.{datum_sound}
 use Rattle.avro_codec.proofs.ValueAgain.{datum_again}
 use Rattle.avro_codec.proofs.PlainLaws.{verdict_sound}
 use Rattle.avro_codec.proofs.JudgeLaws.{only_want}
-use Rattle.avro_datum.proofs.StepLemmas.{ok_is}
+use Rattle.avro_value.proofs.StepLemmas.{ok_is}
 
 abbrev IsRead : AvroType → List ℕ → Result Datum AvroNo → Type 0
 IsRead whole bs r = MatchResult r (λ d. datum_at whole bs ≡ Ok (value_of d)) (λ e. Fails e (datum_at whole bs))

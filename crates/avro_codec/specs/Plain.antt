@@ -1,7 +1,7 @@
 -- The one spelling that is written: shortest varints, and one block (Apache Avro 1.11 specification, "Binary Encoding").
 use Rattle.std.specs.Prelude.{ℕ, zero, suc, ℤ, pos, List, [], ◌∷◌, ◌++◌, length, Bool, true, false}
 use Rattle.wire_prim.specs.Varint.{varint_bytes, varlong_bytes}
-use Rattle.avro_datum.specs.Value.{Value, Values, Entries, Entry, null, boolean, int, long, bytes, string, fixed, symbol, branch, fields, items, entries, no_values, value, no_entries, entry, size_of, count_of}
+use Rattle.avro_value.specs.Value.{Value, Values, Entries, Entry, null, boolean, int, long, bytes, string, fixed, symbol, branch, fields, items, entries, no_values, value, no_entries, entry, size_of, count_of}
 
 -- false is 0 and true is 1
 abbrev pub flag : Bool → ℕ

@@ -7,12 +7,12 @@ use Rattle.wire_prim.specs.Behind.{Behind}
 use Rattle.wire_prim.specs.Varint.{varint_at, behind_varint, behind_varlong}
 use Rattle.avro_schema.specs.Types as schema
 use Rattle.avro_schema.specs.Types.{AvroType, Branches, Fields, resolved}
-use Rattle.avro_datum.specs.declared.error.AvroNo.{AvroNo}
-use Rattle.avro_datum.specs.declared.error.AvroNo.TheVariants.{Mismatch, Range, Short, Rest, BadUtf8, TooDeep, TooMany, Want}
+use Rattle.avro_value.specs.declared.error.AvroNo.{AvroNo}
+use Rattle.avro_value.specs.declared.error.AvroNo.TheVariants.{Mismatch, Range, Short, Rest, BadUtf8, TooDeep, TooMany, Want}
 use Rattle.avro_codec.specs.declared.cursor.Head.{Head}
-use Rattle.avro_datum.specs.Steps.{◌>>=◌, Fails}
-use Rattle.avro_datum.specs.Value.{Value, Entry, null, boolean, int, long, bytes, string, fixed, symbol, branch, fields, items, entries, values_of, entries_of, max_levels, max_nodes}
-use Rattle.avro_datum.specs.Judging.{branch_at}
+use Rattle.avro_value.specs.Steps.{◌>>=◌, Fails}
+use Rattle.avro_value.specs.Value.{Value, Entry, null, boolean, int, long, bytes, string, fixed, symbol, branch, fields, items, entries, values_of, entries_of, max_levels, max_nodes}
+use Rattle.avro_value.specs.Judging.{branch_at}
 
 -- the number of the node that comes next, and the bytes that are left
 pub record Place : Type 0 where

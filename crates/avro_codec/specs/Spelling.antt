@@ -6,8 +6,8 @@ use Rattle.std.specs.Str.{is_utf8}
 use Rattle.wire_prim.specs.Varint.{IsVarint}
 use Rattle.avro_schema.specs.Types as schema
 use Rattle.avro_schema.specs.Types.{AvroType, Branches, Fields, resolved}
-use Rattle.avro_datum.specs.Value.{Value, Values, Entries, null, boolean, int, long, bytes, string, fixed, symbol, branch, fields, items, entries, no_values, value, no_entries, entry}
-use Rattle.avro_datum.specs.Judging.{branch_at}
+use Rattle.avro_value.specs.Value.{Value, Values, Entries, null, boolean, int, long, bytes, string, fixed, symbol, branch, fields, items, entries, no_values, value, no_entries, entry}
+use Rattle.avro_value.specs.Judging.{branch_at}
 use Rattle.avro_codec.specs.Plain.{flag}
 
 -- an int: a zigzag varint of at most 5 bytes

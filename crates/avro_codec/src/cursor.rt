@@ -4,8 +4,8 @@ ghost use Rattle.std.specs.Int.{w64};
 ghost use Rattle.avro_codec.specs.Reading.{Reads, entered, flag_at, head_at, int_at, long_at, run_at, sized_at, text_at};
 ghost use Rattle.avro_codec.specs.Reading as reading;
 
-use avro_datum::AvroNo;
-use avro_datum::limits::MAX_NODES;
+use avro_value::AvroNo;
+use avro_value::limits::MAX_NODES;
 use std::marker::Model;
 use wire_prim::PrimNo;
 

@@ -2,22 +2,23 @@
 ghost use Rattle.std.specs.Prelude.{◌≡◌, ◌==◌, ◌&&◌, ◌≤◌, ℕ, false, map, length, Ok, IfOk, MatchResult};
 ghost use Rattle.avro_schema.specs.Types.{AvroType, Branches, Fields, resolved};
 ghost use Rattle.avro_schema.specs.Nodes.{HasNode, IsOfKind, Stands, StandForBranches, StandForFields, tree_of};
-ghost use Rattle.avro_datum.specs.Value.{IsSmall, Value, entries_of, item_of, value_of, values_of};
+ghost use Rattle.avro_datum.specs.Data.{item_of, value_of};
+ghost use Rattle.avro_value.specs.Value.{IsSmall, Value, entries_of, values_of};
 ghost use Rattle.avro_codec.specs.Spelling.{IsDatum};
-ghost use Rattle.avro_datum.specs.declared.error.AvroNo.TheVariants.{Want};
-ghost use Rattle.avro_datum.specs.Value as shapes;
+ghost use Rattle.avro_value.specs.declared.error.AvroNo.TheVariants.{Want};
+ghost use Rattle.avro_value.specs.Value as shapes;
 ghost use Rattle.avro_codec.specs.Reading.{Reader, Reads, all_blocks, below_at, body_at, datum_at, entry_at, enum_at, fields_at, giving, many, run_at, sized_at, text_at, union_at, value_at, with_front};
-ghost use Rattle.avro_datum.specs.Steps.{Fails};
-ghost use Rattle.avro_datum.specs.Picks.{is_nesting};
+ghost use Rattle.avro_value.specs.Steps.{Fails};
+ghost use Rattle.avro_value.specs.Picks.{is_nesting};
 
 use crate::cursor::{Cursor, weighs};
-use avro_datum::limits::MAX_LEVELS;
-use avro_datum::pick::is_too_deep;
 use avro_datum::{
-    AvroNo, Datum, MapItem, make_branch, make_entries, make_fields, make_items, push_entry,
-    push_value,
+    Datum, MapItem, make_branch, make_entries, make_fields, make_items, push_entry, push_value,
 };
 use avro_schema::{Field, Kind, Schema};
+use avro_value::AvroNo;
+use avro_value::limits::MAX_LEVELS;
+use avro_value::pick::is_too_deep;
 use gate_io::Text;
 use sqlite_items::{Items, at};
 use std::alloc::Global;

@@ -3,22 +3,24 @@ ghost use Rattle.std.specs.Prelude.{◌≡◌, ◌++◌, ◌<◌, ◌≤◌, ◌
 ghost use Rattle.avro_schema.specs.Types.{AvroType, resolved};
 ghost use Rattle.avro_schema.specs.Nodes.{HasNode, Stands, tree_of};
 ghost use Rattle.avro_codec.specs.Spelling.{IsDatum};
-ghost use Rattle.avro_datum.specs.declared.error.AvroNo.TheVariants.{Want};
-ghost use Rattle.avro_datum.specs.Value.{IsSmall, item_of, value_of, values_of, entries_of};
-ghost use Rattle.avro_datum.specs.Value as shapes;
+ghost use Rattle.avro_value.specs.declared.error.AvroNo.TheVariants.{Want};
+ghost use Rattle.avro_datum.specs.Data.{item_of, value_of};
+ghost use Rattle.avro_value.specs.Value.{IsSmall, values_of, entries_of};
+ghost use Rattle.avro_value.specs.Value as shapes;
 ghost use Rattle.avro_codec.specs.Plain.{plain, plain_entry};
-ghost use Rattle.avro_datum.specs.Judging.{Judges, judged, judged_entry, verdict};
-ghost use Rattle.avro_datum.specs.Steps.{Fails};
+ghost use Rattle.avro_value.specs.Judging.{Judges, judged, judged_entry, verdict};
+ghost use Rattle.avro_value.specs.Steps.{Fails};
 
 use crate::leaf::{
     put_boolean, put_bytes, put_fixed, put_int, put_key, put_long, put_long_bytes, put_sized,
     put_symbol, put_text,
 };
-use avro_datum::level::{leaf, open};
-use avro_datum::limits::MAX_LEVELS;
-use avro_datum::pick::{branch_in, entries_in, fields_in, is_null, items_in};
-use avro_datum::{AvroNo, Datum, MapItem};
+use avro_datum::{Datum, MapItem};
 use avro_schema::Schema;
+use avro_value::AvroNo;
+use avro_value::level::{leaf, open};
+use avro_value::limits::MAX_LEVELS;
+use avro_value::pick::{branch_in, entries_in, fields_in, is_null, items_in};
 use std::alloc::Global;
 
 #[cycle(encoder)]
@@ -200,7 +202,7 @@ fn put_node(
 }
 
 // The plain spelling behind what the buffer holds, or the first refusal.
-#[tactic(auto, unfolding(avro_datum::specs::Judging::verdict))]
+#[tactic(auto, unfolding(avro_value::specs::Judging::verdict))]
 fn write_all(out: Vec<u8>, schema: &Schema, datum: &Datum) -> Result<Vec<u8>, AvroNo>
     ensures value { IfOk result (λ bytes. bytes.items ≡ out.items ++ plain (value_of datum.now)) }
     ensures verdict { MatchResult result

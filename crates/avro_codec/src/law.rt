@@ -1,7 +1,7 @@
 //! Laws of data as bytes.
 ghost use Rattle.std.specs.Prelude.{◌≡◌, ◌≤◌, ◌++◌, ℕ, List};
 ghost use Rattle.avro_schema.specs.Types.{AvroType};
-ghost use Rattle.avro_datum.specs.Value.{IsWithin, Value, max_nodes, nodes};
+ghost use Rattle.avro_value.specs.Value.{IsWithin, Value, max_nodes, nodes};
 ghost use Rattle.avro_codec.specs.Spelling.{IsDatum};
 
 /// No spelling of a value begins a spelling of another, nor another spelling of its own.

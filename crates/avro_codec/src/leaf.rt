@@ -4,14 +4,14 @@ ghost use Rattle.std.specs.Str.{is_utf8};
 ghost use Rattle.avro_schema.specs.Types.{AvroType, resolved};
 ghost use Rattle.avro_schema.specs.Nodes.{HasNode, Stands, tree_of};
 ghost use Rattle.avro_codec.specs.Plain.{flag, int_bytes, long_bytes, sized};
-ghost use Rattle.avro_datum.specs.Judging.{Judges, opened, is_below};
-ghost use Rattle.avro_datum.specs.Judging as judging;
-ghost use Rattle.avro_datum.specs.declared.error.AvroNo.TheVariants.{Mismatch, Want};
+ghost use Rattle.avro_value.specs.Judging.{Judges, opened, is_below};
+ghost use Rattle.avro_value.specs.Judging as judging;
+ghost use Rattle.avro_value.specs.declared.error.AvroNo.TheVariants.{Mismatch, Want};
 
-use avro_datum::AvroNo;
-use avro_datum::level::leaf;
-use avro_datum::pick::{has_symbol, is_boolean, is_bytes, is_fixed, is_int, is_long, is_string};
 use avro_schema::Schema;
+use avro_value::AvroNo;
+use avro_value::level::leaf;
+use avro_value::pick::{has_symbol, is_boolean, is_bytes, is_fixed, is_int, is_long, is_string};
 use gate_io::Text;
 use wire_prim::{put_varint, put_varlong};
 

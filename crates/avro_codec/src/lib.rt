@@ -7,7 +7,8 @@ mod encoder;
 mod law;
 mod leaf;
 
-pub use avro_datum::{AvroNo, Datum, MapItem};
+pub use avro_datum::{Datum, MapItem};
+pub use avro_value::AvroNo;
 pub use decoder::decode;
 pub use encoder::{encode, encode_into};
 pub use law::no_spelling_begins_another;

@@ -8,15 +8,16 @@ use Rattle.json_span.specs.Text.{IsText}
 use Rattle.json_span.specs.Refusals.{max_levels}
 use Rattle.avro_schema.specs.Types.{AvroType}
 use Rattle.avro_schema.specs.Distinct.{HasNames}
-use Rattle.avro_datum.specs.declared.error.AvroNo.{AvroNo}
-use Rattle.avro_datum.specs.declared.error.AvroNo.TheVariants.{Want}
+use Rattle.avro_value.specs.declared.error.AvroNo.{AvroNo}
+use Rattle.avro_value.specs.declared.error.AvroNo.TheVariants.{Want}
 use Rattle.avro_datum.specs.declared.datum.Datum.{Datum}
-use Rattle.avro_datum.specs.Value.{Value, IsSmall, IsTyped, value_of}
-use Rattle.avro_datum.specs.Encoding.{IsJson}
-use Rattle.avro_datum.specs.Reading.{datum_at}
+use Rattle.avro_datum.specs.Data.{value_of}
+use Rattle.avro_value.specs.Value.{Value, IsSmall, IsTyped}
+use Rattle.avro_value.specs.Encoding.{IsJson}
+use Rattle.avro_value.specs.Reading.{datum_at}
 use Rattle.avro_datum.specs.Shown.{tokens_of}
-use Rattle.avro_datum.specs.Steps.{Fails}
-use Rattle.avro_datum.proofs.StepLemmas.{ok_is}
+use Rattle.avro_value.specs.Steps.{Fails}
+use Rattle.avro_value.proofs.StepLemmas.{ok_is}
 use Rattle.avro_datum.proofs.ReadSound.{read_sound}
 use Rattle.avro_datum.proofs.ReadAgain.{read_again}
 use Rattle.avro_datum.proofs.ShownAgain.{shown_again}

@@ -5,10 +5,11 @@ use Rattle.std.proofs.lemmas.Map.Text.{is_eq-slice_cmp}
 use Rattle.std.specs.Str.{bytes_eq}
 use Rattle.std.specs.BTreeSet.{BTreeSet, contains, Updates, IsEmpty}
 use Rattle.avro_datum.specs.declared.datum.MapItem.{MapItem}
-use Rattle.avro_datum.specs.Value.{item_of, entries_of}
-use Rattle.avro_datum.specs.Encoding.{is_among, differ}
+use Rattle.avro_datum.specs.Data.{item_of}
+use Rattle.avro_value.specs.Value.{entries_of}
+use Rattle.avro_value.specs.Encoding.{is_among, differ}
 use Rattle.avro_datum.specs.Shown.{keys_of}
-use Rattle.avro_datum.proofs.PartLemmas.{among_last, differ_last, differ_front, str_cmp}
+use Rattle.avro_value.proofs.PartLemmas.{among_last, differ_last, differ_front, str_cmp}
 
 -- the keys of entries
 abbrev pub names : List MapItem → List (List ℕ)

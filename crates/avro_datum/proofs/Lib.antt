@@ -1,7 +1,4 @@
-pub mod PickLemmas
-pub mod NodeLemmas
-pub mod StepLemmas
-pub mod CountLemmas
+pub mod DatumLemmas
 pub mod ReadSound
 pub mod ReadAgain
 pub mod ShownAgain
@@ -13,7 +10,6 @@ pub mod ShownParts
 pub mod NamedParts
 pub mod JsonParts
 pub mod TextAgain
-pub mod PartLemmas
 pub mod ReadLemmas
 pub mod KeyLemmas
 pub mod ShownLemmas

@@ -10,10 +10,10 @@ use Rattle.avro_schema.specs.Distinct.{AreDistinct, HasNames, BranchesHaveNames,
 use Rattle.json_span.specs.Json as json
 use Rattle.json_span.specs.Json.{Json, Members}
 use Rattle.json_token.specs.Chars.{content}
-use Rattle.avro_datum.specs.Value.{Values, no_values, value}
-use Rattle.avro_datum.specs.Judging.{branch_at}
+use Rattle.avro_value.specs.Value.{Values, no_values, value}
+use Rattle.avro_value.specs.Judging.{branch_at}
 use Rattle.json_span.specs.Parts.{last_member, later}
-use Rattle.avro_datum.specs.Encoding.{place_of, names_of, AreFields}
+use Rattle.avro_value.specs.Encoding.{place_of, names_of, AreFields}
 
 same : (a b : List ℕ) → bytes_eq a b ≡ true → a ≡ b
 same a b h = (bytes_eq-Decides a b).0 h

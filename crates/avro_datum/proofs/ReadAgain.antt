@@ -8,15 +8,15 @@ use Rattle.json_span.specs.Json as json
 use Rattle.json_span.specs.Json.{Json, Items, Members}
 use Rattle.json_token.specs.Chars.{content}
 use Rattle.json_token.specs.Integer.{integer_of}
-use Rattle.avro_datum.specs.declared.error.AvroNo.{AvroNo}
-use Rattle.avro_datum.specs.declared.error.AvroNo.TheVariants.{Mismatch}
-use Rattle.avro_datum.specs.Steps.{◌>>=◌}
-use Rattle.avro_datum.specs.Value.{Value, Values, Entries, Entry, null, boolean, int, long, bytes, string, fixed, symbol, branch, fields, items, entries, no_values, value, no_entries, entry, values_of, entries_of, nodes, nodes_in, nodes_among, IsWithin, AreWithin, EntriesWithin, IsSmall, max_levels, max_nodes}
-use Rattle.avro_datum.specs.Judging.{is_null, branch_at, is_below}
-use Rattle.avro_datum.specs.Encoding.{place_of, branch_names, names_of, differ, IsPoints, IsLabelled, IsJson, AreFields, AreItems, AreEntries}
-use Rattle.avro_datum.specs.Reading.{Read, Reader, integer_in, integer_at, points_at, sized, fixed_at, placed, symbol_at, entries_in, found, present, fields_in, Labelled, agree, labelled, branch_by, branch_in, items_at, entries_at, fields_at, leaf, giving, body_at, nests, entered, node_at, value_at, below_at, datum_at}
-use Rattle.avro_datum.proofs.StepLemmas.{bind_at}
-use Rattle.avro_datum.proofs.CountLemmas.{below32, below64}
+use Rattle.avro_value.specs.declared.error.AvroNo.{AvroNo}
+use Rattle.avro_value.specs.declared.error.AvroNo.TheVariants.{Mismatch}
+use Rattle.avro_value.specs.Steps.{◌>>=◌}
+use Rattle.avro_value.specs.Value.{Value, Values, Entries, Entry, null, boolean, int, long, bytes, string, fixed, symbol, branch, fields, items, entries, no_values, value, no_entries, entry, values_of, entries_of, nodes, nodes_in, nodes_among, IsWithin, AreWithin, EntriesWithin, IsSmall, max_levels, max_nodes}
+use Rattle.avro_value.specs.Judging.{is_null, branch_at, is_below}
+use Rattle.avro_value.specs.Encoding.{place_of, branch_names, names_of, differ, IsPoints, IsLabelled, IsJson, AreFields, AreItems, AreEntries}
+use Rattle.avro_value.specs.Reading.{Read, Reader, integer_in, integer_at, points_at, sized, fixed_at, placed, symbol_at, entries_in, found, present, fields_in, Labelled, agree, labelled, branch_by, branch_in, items_at, entries_at, fields_at, leaf, giving, body_at, nests, entered, node_at, value_at, below_at, datum_at}
+use Rattle.avro_value.proofs.StepLemmas.{bind_at}
+use Rattle.avro_value.proofs.CountLemmas.{below32, below64}
 
 -- ---- a node
 

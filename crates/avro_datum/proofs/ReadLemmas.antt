@@ -17,16 +17,17 @@ use Rattle.json_span.specs.Nodes.{Stands, StandForItems, StandForMembers}
 use Rattle.json_span.specs.Nodes as values
 use Rattle.json_span.specs.declared.tree.Tree.{Tree}
 use Rattle.json_span.specs.declared.tree.Member.{Member}
-use Rattle.avro_datum.specs.declared.error.AvroNo.{AvroNo}
-use Rattle.avro_datum.specs.declared.error.AvroNo.TheVariants.{TooDeep, TooMany}
+use Rattle.avro_value.specs.declared.error.AvroNo.{AvroNo}
+use Rattle.avro_value.specs.declared.error.AvroNo.TheVariants.{TooDeep, TooMany}
 use Rattle.avro_datum.specs.declared.datum.Datum.{Datum}
-use Rattle.avro_datum.specs.declared.json_pick.Part.{Part}
-use Rattle.avro_datum.specs.Steps.{◌>>=◌, Fails}
-use Rattle.avro_datum.specs.Value.{Value, Entry, max_levels, max_nodes, value_of}
-use Rattle.avro_datum.specs.Picks.{is_nesting}
-use Rattle.avro_datum.specs.Parts.{AreParts}
-use Rattle.avro_datum.specs.Reading.{Read, Reader, Reads, items_at, entries_at, fields_at, giving, body_at, nests, entered, node_at, value_at, below_at, datum_at}
-use Rattle.avro_datum.proofs.PickLemmas.{resolves_is}
+use Rattle.avro_value.specs.declared.json_pick.Part.{Part}
+use Rattle.avro_value.specs.Steps.{◌>>=◌, Fails}
+use Rattle.avro_datum.specs.Data.{value_of}
+use Rattle.avro_value.specs.Value.{Value, Entry, max_levels, max_nodes}
+use Rattle.avro_value.specs.Picks.{is_nesting}
+use Rattle.avro_value.specs.Parts.{AreParts}
+use Rattle.avro_value.specs.Reading.{Read, Reader, Reads, items_at, entries_at, fields_at, giving, body_at, nests, entered, node_at, value_at, below_at, datum_at}
+use Rattle.avro_value.proofs.PickLemmas.{resolves_is}
 
 -- ---- steps
 

@@ -10,15 +10,15 @@ use Rattle.json_span.specs.Json as json
 use Rattle.json_span.specs.Json.{Json, Items, Members}
 use Rattle.json_token.specs.Chars.{content}
 use Rattle.json_token.specs.Integer.{integer_of}
-use Rattle.avro_datum.specs.declared.error.AvroNo.{AvroNo}
-use Rattle.avro_datum.specs.declared.error.AvroNo.TheVariants.{Mismatch, Range, TooDeep, TooMany}
-use Rattle.avro_datum.specs.Steps.{◌>>=◌}
-use Rattle.avro_datum.specs.Value.{Value, Entry, null, boolean, int, long, bytes, string, fixed, symbol, branch, fields, items, entries, values_of, entries_of, nodes, nodes_in, nodes_among, IsWithin, AreWithin, EntriesWithin, IsSmall, max_levels, max_nodes}
-use Rattle.avro_datum.specs.Judging.{is_null, branch_at, is_below}
+use Rattle.avro_value.specs.declared.error.AvroNo.{AvroNo}
+use Rattle.avro_value.specs.declared.error.AvroNo.TheVariants.{Mismatch, Range, TooDeep, TooMany}
+use Rattle.avro_value.specs.Steps.{◌>>=◌}
+use Rattle.avro_value.specs.Value.{Value, Entry, null, boolean, int, long, bytes, string, fixed, symbol, branch, fields, items, entries, values_of, entries_of, nodes, nodes_in, nodes_among, IsWithin, AreWithin, EntriesWithin, IsSmall, max_levels, max_nodes}
+use Rattle.avro_value.specs.Judging.{is_null, branch_at, is_below}
 use Rattle.json_span.specs.Parts.{last_member}
-use Rattle.avro_datum.specs.Encoding.{place_of, branch_names, names_of, differ, IsPoints, IsLabelled, IsJson, AreFields, AreItems, AreEntries}
-use Rattle.avro_datum.specs.Reading.{Read, Reader, is_whole, integer_in, integer_at, flag_at, text_at, points_of, points_at, sized, fixed_at, placed, symbol_at, items_in, members_in, entries_in, also, found, present, fields_in, Labelled, agree, labelled, branch_by, branch_in, items_at, entries_at, fields_at, leaf, giving, null_at, body_at, nests, node_at, too_deep, value_at, datum_at}
-use Rattle.avro_datum.proofs.StepLemmas.{bind_ok, ok_is, chosen_ok, chosen_else, chosen_then}
+use Rattle.avro_value.specs.Encoding.{place_of, branch_names, names_of, differ, IsPoints, IsLabelled, IsJson, AreFields, AreItems, AreEntries}
+use Rattle.avro_value.specs.Reading.{Read, Reader, is_whole, integer_in, integer_at, flag_at, text_at, points_of, points_at, sized, fixed_at, placed, symbol_at, items_in, members_in, entries_in, also, found, present, fields_in, Labelled, agree, labelled, branch_by, branch_in, items_at, entries_at, fields_at, leaf, giving, null_at, body_at, nests, node_at, too_deep, value_at, datum_at}
+use Rattle.avro_value.proofs.StepLemmas.{bind_ok, ok_is, chosen_ok, chosen_else, chosen_then}
 
 -- this was read, and its nodes were counted from k up to n
 pub record Took (holds : Type 0) (count k n : ℕ) : Type 0 where

@@ -8,14 +8,14 @@ use Rattle.json.specs.Token.{Token}
 use Rattle.avro_schema.specs.Types as schema
 use Rattle.avro_schema.specs.Types.{AvroType, Branches, Fields, resolved, branch_name}
 use Rattle.json_span.specs.Json.{Json, Items, Members}
-use Rattle.avro_datum.specs.Steps.{◌>>=◌}
-use Rattle.avro_datum.specs.Value.{Value, Values, Entries, null, boolean, int, long, bytes, string, fixed, symbol, branch, fields, items, entries, no_values, value, no_entries, entry, size_of, count_of, nodes, nodes_in, nodes_among, IsWithin, AreWithin, EntriesWithin, IsSmall, max_levels, max_nodes}
-use Rattle.avro_datum.specs.Judging.{is_null, is_boolean, is_int, is_long, is_bytes, is_string, is_fixed, number_of, node}
-use Rattle.avro_datum.specs.Encoding.{place_of, names_of, differ, IsJson, AreFields, AreItems, AreEntries}
+use Rattle.avro_value.specs.Steps.{◌>>=◌}
+use Rattle.avro_value.specs.Value.{Value, Values, Entries, null, boolean, int, long, bytes, string, fixed, symbol, branch, fields, items, entries, no_values, value, no_entries, entry, size_of, count_of, nodes, nodes_in, nodes_among, IsWithin, AreWithin, EntriesWithin, IsSmall, max_levels, max_nodes}
+use Rattle.avro_value.specs.Judging.{is_null, is_boolean, is_int, is_long, is_bytes, is_string, is_fixed, number_of, node}
+use Rattle.avro_value.specs.Encoding.{place_of, names_of, differ, IsJson, AreFields, AreItems, AreEntries}
 use Rattle.avro_datum.specs.Shown.{Shown, leaf, between, behind, symbol_in, named, labelled, keys_of, values_in, shown, shown_fields, shown_items, shown_entries, tokens_of}
-use Rattle.avro_datum.proofs.NodeLemmas.{node_is}
-use Rattle.avro_datum.proofs.StepLemmas.{bind_at}
-use Rattle.avro_datum.proofs.CountLemmas.{below32, below64, opened_is, branch_is, fields_are, items_are, size_few, count_few}
+use Rattle.avro_value.proofs.NodeLemmas.{node_is}
+use Rattle.avro_value.proofs.StepLemmas.{bind_at}
+use Rattle.avro_value.proofs.CountLemmas.{below32, below64, opened_is, branch_is, fields_are, items_are, size_few, count_few}
 
 -- there are tokens, and this is the number of the node behind them
 abbrev Shows : Shown → ℕ → Type 0

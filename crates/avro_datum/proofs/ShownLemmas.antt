@@ -7,18 +7,20 @@ use Rattle.avro_schema.specs.Types as schema
 use Rattle.avro_schema.specs.Types.{AvroType, Fields, resolved, branch_name}
 use Rattle.avro_schema.specs.declared.parts.Field.{Field}
 use Rattle.avro_schema.specs.Nodes.{SchemaValue, HasNode, Stands, StandForFields, tree_of}
-use Rattle.avro_datum.specs.declared.error.AvroNo.{AvroNo}
-use Rattle.avro_datum.specs.declared.error.AvroNo.TheVariants.{Mismatch}
+use Rattle.avro_value.specs.declared.error.AvroNo.{AvroNo}
+use Rattle.avro_value.specs.declared.error.AvroNo.TheVariants.{Mismatch}
 use Rattle.avro_datum.specs.declared.datum.Datum.{Datum}
 use Rattle.avro_datum.specs.declared.datum.MapItem.{MapItem}
-use Rattle.avro_datum.specs.Value as shapes
-use Rattle.avro_datum.specs.Value.{Value, value_of, item_of, values_of, entries_of, count_of}
-use Rattle.avro_datum.specs.Steps.{◌>>=◌, Fails}
-use Rattle.avro_datum.specs.Judging.{is_null, opened, node, items_in, entries_in, fields_in}
-use Rattle.avro_datum.specs.Picks.{Picks, PicksFields}
-use Rattle.avro_datum.specs.Encoding.{differ}
+use Rattle.avro_value.specs.Value as shapes
+use Rattle.avro_datum.specs.Data.{value_of, item_of}
+use Rattle.avro_value.specs.Value.{Value, values_of, entries_of, count_of}
+use Rattle.avro_value.specs.Steps.{◌>>=◌, Fails}
+use Rattle.avro_value.specs.Judging.{is_null, opened, node, items_in, entries_in, fields_in}
+use Rattle.avro_value.specs.Picks.{Picks, PicksFields}
+use Rattle.avro_value.specs.Encoding.{differ}
 use Rattle.avro_datum.specs.Shown.{Shown, Shows, between, behind, labelled, keys_of, values_in, shown, shown_fields, shown_items, shown_entries}
-use Rattle.avro_datum.proofs.NodeLemmas.{node_is, node_lacks, fails_on, size_is, count_is, key_is, value_is}
+use Rattle.avro_datum.proofs.DatumLemmas.{size_is, count_is, key_is, value_is}
+use Rattle.avro_value.proofs.NodeLemmas.{node_is, node_lacks, fails_on}
 
 -- ---- steps
 

@@ -7,12 +7,12 @@ use Rattle.json.specs.Token as token
 use Rattle.json.specs.Token.{Token}
 use Rattle.avro_schema.specs.Types as schema
 use Rattle.avro_schema.specs.Types.{AvroType, Branches, Fields, branch_name}
-use Rattle.avro_datum.specs.declared.error.AvroNo.{AvroNo}
-use Rattle.avro_datum.specs.declared.error.AvroNo.TheVariants.{Mismatch, TooMany}
-use Rattle.avro_datum.specs.Steps.{◌>>=◌}
-use Rattle.avro_datum.specs.Value.{Entries, max_nodes, count_of}
-use Rattle.avro_datum.specs.Judging.{is_null, is_boolean, is_int, is_long, is_bytes, is_string, is_fixed, is_below, branch_at, branch_in, fields_in, number_of, items_in, entries_in, inside, node}
-use Rattle.avro_datum.specs.Encoding.{differ}
+use Rattle.avro_value.specs.declared.error.AvroNo.{AvroNo}
+use Rattle.avro_value.specs.declared.error.AvroNo.TheVariants.{Mismatch, TooMany}
+use Rattle.avro_value.specs.Steps.{◌>>=◌}
+use Rattle.avro_value.specs.Value.{Entries, max_nodes, count_of}
+use Rattle.avro_value.specs.Judging.{is_null, is_boolean, is_int, is_long, is_bytes, is_string, is_fixed, is_below, branch_at, branch_in, fields_in, number_of, items_in, entries_in, inside, node}
+use Rattle.avro_value.specs.Encoding.{differ}
 use Rattle.avro_datum.specs.Shown.{Shown, leaf, between, behind, symbol_in, named, keys_of, values_in}
 
 -- ---- a success of the whole is one of its parts

@@ -21,9 +21,9 @@ use Rattle.avro_schema.specs.Types.{AvroType, Fields, resolved, branch_name}
 use Rattle.avro_names.specs.NameList.{is_among}
 use Rattle.avro_schema.specs.Distinct.{HasNames, FieldsHaveNames, AreDistinct, branch_names, field_names}
 use Rattle.avro_schema.proofs.DistinctNames.{resolved_has_names}
-use Rattle.avro_datum.specs.Value.{Value, Values, Entries, null, boolean, int, long, bytes, string, fixed, symbol, branch, fields, items, entries, no_values, value, no_entries, entry, size_of, max_levels, IsTyped, AreTyped, EntriesTyped}
-use Rattle.avro_datum.specs.Judging.{is_null, is_boolean, is_bytes, branch_in, fields_in, items_in, number_of}
-use Rattle.avro_datum.specs.Encoding.{place_of, names_of, differ, IsJson, AreFields, AreItems, AreEntries}
+use Rattle.avro_value.specs.Value.{Value, Values, Entries, null, boolean, int, long, bytes, string, fixed, symbol, branch, fields, items, entries, no_values, value, no_entries, entry, size_of, max_levels, IsTyped, AreTyped, EntriesTyped}
+use Rattle.avro_value.specs.Judging.{is_null, is_boolean, is_bytes, branch_in, fields_in, items_in, number_of}
+use Rattle.avro_value.specs.Encoding.{place_of, names_of, differ, IsJson, AreFields, AreItems, AreEntries}
 use Rattle.avro_datum.specs.Shown.{Shown, behind, between, symbol_in, labelled, keys_of, values_in, shown, shown_fields, shown_items, shown_entries, tokens_of}
 use Rattle.avro_datum.proofs.Printing.{Prints, PrintsItems, PrintsMembers, null_prints, true_prints, false_prints, number_prints, text_prints, no_items_print, item_prints, array_prints, no_members_print, member_prints, object_prints, print_is}
 use Rattle.avro_datum.proofs.ShownParts.{invert, leaf_is, behind_is, between_is, node_is, named_is, and_first, and_second, null_is, boolean_is, int_is, long_is, bytes_is, string_is, fixed_is, symbol_is, IsBranch, branch_is, fields_are, array_is, values_are, fits_int, fits_long, int_is_long}

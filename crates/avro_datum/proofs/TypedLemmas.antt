@@ -4,8 +4,10 @@ use Rattle.std.specs.Str.{is_utf8, IsUtf8}
 use Rattle.std.proofs.lemmas.Str.{is_utf8-from_IsUtf8}
 use Rattle.avro_datum.specs.declared.datum.Datum.{Datum}
 use Rattle.avro_datum.specs.declared.datum.MapItem.{MapItem}
-use Rattle.avro_datum.specs.Value.{value_of, item_of, values_of, entries_of, IsTyped, AreTyped, EntriesTyped}
-use Rattle.avro_datum.proofs.NodeLemmas.{rest_is, none_left, key_is, value_is}
+use Rattle.avro_datum.specs.Data.{value_of, item_of}
+use Rattle.avro_value.specs.Value.{values_of, entries_of, IsTyped, AreTyped, EntriesTyped}
+use Rattle.avro_datum.proofs.DatumLemmas.{key_is, value_is}
+use Rattle.avro_value.proofs.NodeLemmas.{rest_is, none_left}
 
 pub record ValuesSoFar (rest all : List Datum) : Type 0 where
   pub typed : AreTyped (values_of (map value_of rest)) → AreTyped (values_of (map value_of all))

@@ -1,8 +1,2 @@
-pub mod Value
-pub mod Steps
-pub mod Judging
-pub mod Picks
-pub mod Encoding
-pub mod Reading
+pub mod Data
 pub mod Shown
-pub mod Parts

@@ -6,12 +6,12 @@ use Rattle.json.specs.Token as token
 use Rattle.json.specs.Token.{Token}
 use Rattle.avro_schema.specs.Types as schema
 use Rattle.avro_schema.specs.Types.{AvroType, Fields, resolved, branch_name}
-use Rattle.avro_datum.specs.declared.error.AvroNo.{AvroNo}
-use Rattle.avro_datum.specs.declared.error.AvroNo.TheVariants.{Mismatch, TooMany}
-use Rattle.avro_datum.specs.Steps.{◌>>=◌, Fails}
-use Rattle.avro_datum.specs.Value.{Value, Values, Entries, null, boolean, int, long, bytes, string, fixed, symbol, branch, fields, items, entries, no_values, value, no_entries, entry, size_of, count_of, max_levels, max_nodes}
-use Rattle.avro_datum.specs.Judging.{is_null, is_boolean, is_int, is_long, is_bytes, is_string, is_fixed, is_below, branch_in, fields_in, items_in, entries_in, node}
-use Rattle.avro_datum.specs.Encoding.{differ}
+use Rattle.avro_value.specs.declared.error.AvroNo.{AvroNo}
+use Rattle.avro_value.specs.declared.error.AvroNo.TheVariants.{Mismatch, TooMany}
+use Rattle.avro_value.specs.Steps.{◌>>=◌, Fails}
+use Rattle.avro_value.specs.Value.{Value, Values, Entries, null, boolean, int, long, bytes, string, fixed, symbol, branch, fields, items, entries, no_values, value, no_entries, entry, size_of, count_of, max_levels, max_nodes}
+use Rattle.avro_value.specs.Judging.{is_null, is_boolean, is_int, is_long, is_bytes, is_string, is_fixed, is_below, branch_in, fields_in, items_in, entries_in, node}
+use Rattle.avro_value.specs.Encoding.{differ}
 
 -- the tokens and the number of the node behind them, or the first refusal
 abbrev pub Shown : Type 0

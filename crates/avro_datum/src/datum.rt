@@ -1,10 +1,11 @@
 //! A datum: a value of an Avro schema.
 ghost use Rattle.std.specs.Prelude.{◌≡◌, ◌++◌, ◌∷◌, [], map, IfOk, IfErr, OnOk};
-ghost use Rattle.avro_datum.specs.Value.{entries_of, item_of, value_of, values_of};
-ghost use Rattle.avro_datum.specs.Value as shapes;
-ghost use Rattle.avro_datum.specs.declared.error.AvroNo.TheVariants.{Want};
+ghost use Rattle.avro_datum.specs.Data.{item_of, value_of};
+ghost use Rattle.avro_value.specs.Value.{entries_of, values_of};
+ghost use Rattle.avro_value.specs.Value as shapes;
+ghost use Rattle.avro_value.specs.declared.error.AvroNo.TheVariants.{Want};
 
-use crate::error::AvroNo;
+use avro_value::AvroNo;
 use gate_io::Text;
 use sqlite_items::{Boxed, Items};
 use std::alloc::Global;

@@ -6,27 +6,28 @@ ghost use Rattle.avro_schema.specs.Nodes.{tree_of, IsOfKind, Resolves};
 ghost use Rattle.json_span.specs.Json.{Json, Members};
 ghost use Rattle.json_span.specs.Json as json;
 ghost use Rattle.json_span.specs.Nodes.{HasNode, Stands, StandForItems, StandForMembers};
-ghost use Rattle.avro_datum.specs.Value.{IsSmall, Value, entries_of, item_of, max_nodes, value_of, values_of};
-ghost use Rattle.avro_datum.specs.Value as shapes;
-ghost use Rattle.avro_datum.specs.Parts.{AreParts, IsChoice};
-ghost use Rattle.avro_datum.specs.Picks.{is_nesting};
-ghost use Rattle.avro_datum.specs.Reading.{Labelled, Reader, Reads, below_at, body_at, datum_at, entries_at, fields_at, fixed_at, giving, items_at, points_at, symbol_at, text_at, value_at};
-ghost use Rattle.avro_datum.specs.Reading as reading;
-ghost use Rattle.avro_datum.specs.Encoding.{IsJson};
-ghost use Rattle.avro_datum.specs.Steps.{Fails};
-ghost use Rattle.avro_datum.specs.declared.error.AvroNo.TheVariants.{Want};
+ghost use Rattle.avro_datum.specs.Data.{item_of, value_of};
+ghost use Rattle.avro_value.specs.Value.{IsSmall, Value, entries_of, max_nodes, values_of};
+ghost use Rattle.avro_value.specs.Value as shapes;
+ghost use Rattle.avro_value.specs.Parts.{AreParts, IsChoice};
+ghost use Rattle.avro_value.specs.Picks.{is_nesting};
+ghost use Rattle.avro_value.specs.Reading.{Labelled, Reader, Reads, below_at, body_at, datum_at, entries_at, fields_at, fixed_at, giving, items_at, points_at, symbol_at, text_at, value_at};
+ghost use Rattle.avro_value.specs.Reading as reading;
+ghost use Rattle.avro_value.specs.Encoding.{IsJson};
+ghost use Rattle.avro_value.specs.Steps.{Fails};
+ghost use Rattle.avro_value.specs.declared.error.AvroNo.TheVariants.{Want};
 
 use crate::datum::{
     Datum, MapItem, make_branch, make_entries, make_fields, make_items, push_entry, push_value,
 };
-use crate::error::AvroNo;
-use crate::json_leaf::{
+use avro_schema::{Kind, Schema};
+use avro_value::AvroNo;
+use avro_value::json_leaf::{
     fixed_in, flag_in, int_in, long_in, null_in, points_in, symbol_in, text_in,
 };
-use crate::json_pick::{Choice, Part, branch_in, entries_in, fields_in, items_in};
-use crate::limits::{MAX_LEVELS, MAX_NODES};
-use crate::pick::is_too_deep;
-use avro_schema::{Kind, Schema};
+use avro_value::json_pick::{Choice, Part, branch_in, entries_in, fields_in, items_in};
+use avro_value::limits::{MAX_LEVELS, MAX_NODES};
+use avro_value::pick::is_too_deep;
 use gate_io::Text;
 use json_span::{Member, Tree};
 use sqlite_items::Items;
@@ -269,7 +270,7 @@ fn read_body(
             Ok(parts) => read_fields(alloc, schema, tree, parts.as_slice(), levels - 1, next),
             Err(e) => Err(e),
         },
-        Kind::Union => match branch_in(schema, schema.branches(place), tree, node, number) {
+        Kind::Union => match branch_in(schema, place, tree, node, number) {
             Ok(choice) => read_branch(alloc, schema, tree, choice, levels - 1, next),
             Err(e) => Err(e),
         },

@@ -8,24 +8,25 @@ ghost use Rattle.json_span.specs.Refusals.{max_levels};
 ghost use Rattle.avro_schema.specs.Types.{AvroType, resolved};
 ghost use Rattle.avro_schema.specs.Nodes.{HasNode, Stands, StandForFields, tree_of};
 ghost use Rattle.avro_schema.specs.Types as schema_types;
-ghost use Rattle.avro_datum.specs.declared.error.AvroNo.TheVariants.{Want};
-ghost use Rattle.avro_datum.specs.Value.{AreTyped, EntriesTyped, IsSmall, IsTyped, item_of, value_of, values_of, entries_of};
-ghost use Rattle.avro_datum.specs.Value as shapes;
-ghost use Rattle.avro_datum.specs.Encoding.{IsJson, differ};
+ghost use Rattle.avro_value.specs.declared.error.AvroNo.TheVariants.{Want};
+ghost use Rattle.avro_datum.specs.Data.{item_of, value_of};
+ghost use Rattle.avro_value.specs.Value.{AreTyped, EntriesTyped, IsSmall, IsTyped, values_of, entries_of};
+ghost use Rattle.avro_value.specs.Value as shapes;
+ghost use Rattle.avro_value.specs.Encoding.{IsJson, differ};
 ghost use Rattle.avro_datum.specs.Shown.{Shows, shown, shown_fields, shown_items, shown_entries, labelled, keys_of, tokens_of};
 ghost use Rattle.avro_datum.specs.Shown as tokens;
-ghost use Rattle.avro_datum.specs.Picks.{Picks};
-ghost use Rattle.avro_datum.specs.Steps.{Fails};
+ghost use Rattle.avro_value.specs.Picks.{Picks};
+ghost use Rattle.avro_value.specs.Steps.{Fails};
 
 use crate::datum::{Datum, MapItem};
-use crate::error::AvroNo;
-use crate::level::open;
-use crate::limits::MAX_LEVELS;
-use crate::pick::{branch_in, entries_in, fields_in, is_null, items_in};
 use crate::text_leaf::{
     put_boolean, put_bytes, put_fixed, put_int, put_long, put_null, put_symbol, put_text,
 };
 use avro_schema::{Field, Schema};
+use avro_value::AvroNo;
+use avro_value::level::open;
+use avro_value::limits::MAX_LEVELS;
+use avro_value::pick::{branch_in, entries_in, fields_in, is_null, items_in};
 use json::Writer;
 use std::alloc::Global;
 use std::collections::BTreeSet;

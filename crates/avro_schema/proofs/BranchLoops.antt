@@ -8,16 +8,16 @@ use Rattle.json_span.specs.Json.{Json, Items}
 use Rattle.json_span.specs.Nodes.{StandForItems}
 use Rattle.json_span.specs.declared.tree.Tree.{Tree}
 use Rattle.avro_schema.specs.Types.{AvroType, Branches, Defined, null, no_branches, branch, branch_name, definitions, branch_definitions}
-use Rattle.avro_schema.specs.Forms.{type_at, branches_at, types_of}
+use Rattle.avro_schema.specs.Forms.{type_at, branches_at, types_of, names_of_branches}
 use Rattle.avro_schema.specs.Reading.{Read, Outcome, Reader, branch_read, branches_read}
 use Rattle.avro_names.specs.Outcomes.{next}
 use Rattle.avro_names.specs.NameList.{is_among}
-use Rattle.avro_schema.specs.Building.{names_of, IsBuilt, Grows, Makes, MakesBranch, BranchesSoFar, behind_branches, in_front, names_of_branches}
+use Rattle.avro_schema.specs.Building.{names_of, IsBuilt, Grows, Makes, MakesBranch, BranchesSoFar, behind_branches, in_front}
 use Rattle.avro_names.specs.Outcomes.{Why}
 use Rattle.avro_schema.specs.declared.parts.Parts.{Parts}
 use Rattle.avro_names.specs.declared.error.SchemaNo.{SchemaNo}
 use Rattle.avro_names.specs.declared.error.SchemaNo.TheVariants.{BadType}
-use Rattle.avro_schema.proofs.Grown.{branches_same, length-types_of}
+use Rattle.avro_schema.proofs.Grown.{branches_same, names_same, length-types_of}
 use Rattle.avro_schema.proofs.Growth.{grows_refl, grows_trans, grows_along}
 use Rattle.avro_names.proofs.ListLemmas.{NextItem, no_item}
 use Rattle.avro_names.proofs.Outcomes.{next_ok}
@@ -52,18 +52,8 @@ names-push : (ts : List AvroType) (ks : List ℕ) (k : ℕ) → names_of_branche
 names-push ts [] k = refl
 names-push ts (c ∷ ks) k = ap (λ x. branch_name (type_at ts c) ∷ x) (names-push ts ks k)
 
-names_in_branches : Branches → List (List ℕ)
-names_in_branches no_branches = []
-names_in_branches (branch t bs) = branch_name t ∷ names_in_branches bs
-
-names_by_branches : (ts : List AvroType) (ks : List ℕ) → names_of_branches ts ks ≡ names_in_branches (branches_at ts ks)
-unfolding names_in_branches
-names_by_branches ts [] = refl
-names_by_branches ts (c ∷ ks) = ap (λ x. branch_name (type_at ts c) ∷ x) (names_by_branches ts ks)
-
 pub names_later : (p q : Parts) (ds : List Defined) (ks : List ℕ) → Grows p q ds → All (λ k. k < length p.nodes.items) ks → names_of_branches (types_of p.nodes.items) ks ≡ names_of_branches (types_of q.nodes.items) ks
-names_later p q ds ks g h =
-    names_by_branches (types_of p.nodes.items) ks ∙ ap names_in_branches (branches_same (types_of p.nodes.items) (types_of q.nodes.items) (length p.nodes.items) ks (agree_later p q ds g) h) ∙ sym (names_by_branches (types_of q.nodes.items) ks)
+names_later p q ds ks g h = names_same (types_of p.nodes.items) (types_of q.nodes.items) (length p.nodes.items) ks (agree_later p q ds g) h
 
 pub branches_first : (tree : Tree) (below : Reader) (namespace : List ℕ) (js : Items) (p : Parts) (ks : List ℕ) → StandForItems tree ks js → IsBuilt p → BranchesSoFar tree below namespace js p p ks []
 branches_first tree below namespace js p ks h b =

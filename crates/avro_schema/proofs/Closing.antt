@@ -2,7 +2,7 @@
 use Rattle.std.proofs.Common.{◌≡◌, ℕ, ◌<◌, List, [], ◌∷◌, ◌++◌, length, Result, Ok, Err, IfOk, IfErr, inr, Some, refl, sym, ap, ◌∙◌, subst, append_assoc, arith, length-append}
 use Rattle.std.specs.List.{slice_get}
 use Rattle.avro_schema.specs.Types.{AvroType, Defined, definitions}
-use Rattle.avro_schema.specs.Forms.{type_of, types_of, AreBefore, EachBefore}
+use Rattle.avro_schema.specs.Forms.{type_of, types_of, AreBefore, EachBefore, IsNamed, EachNamed}
 use Rattle.avro_schema.specs.Reading.{Outcome}
 use Rattle.avro_names.specs.Definitions.{names_in, FirstNamed, defined_at}
 use Rattle.avro_schema.specs.Building.{names_of, IsBuilt, DefinesIn, Grows, Tells, Finishes, NamesNew}
@@ -22,6 +22,7 @@ named_built o p q name d b n =
     let Q : List Definition → Type 0 = λ xs. (k : ℕ) (m : List ℕ) (e : ℕ) → slice_get q.nodes.items k ≡ Some (Named m e) → FirstNamed xs m e in
     record {
       before = subst P (sym n.nodes) b.before;
+      named = subst EachNamed (sym n.nodes) b.named;
       leads = subst Q (sym n.definitions) (λ k m e h. first_stays p.definitions ((record { name = name; node = 0 }) ∷ []) m e (b.leads k m e (ap (λ fs. slice_get fs k) (sym n.nodes) ∙ h)));
     }
 
@@ -42,9 +43,9 @@ pub record Closed (p s : Parts) (k : ℕ) (t : AvroType) (names : List (List ℕ
   pub grows : Grows p s (definitions t)
   pub names_are : names_of s ≡ names
 
-pub closed : (o : Result (List ℕ) SchemaNo) (p q r s : Parts) (name : List ℕ) (d : ℕ) (ds : List Defined) (f : Form) (t : AvroType) (k : ℕ) → NamesNew o p q name d → Grows q r ds → Finishes r s d f k → AreBefore (length r.nodes.items) f
+pub closed : (o : Result (List ℕ) SchemaNo) (p q r s : Parts) (name : List ℕ) (d : ℕ) (ds : List Defined) (f : Form) (t : AvroType) (k : ℕ) → NamesNew o p q name d → Grows q r ds → Finishes r s d f k → AreBefore (length r.nodes.items) f → IsNamed (types_of r.nodes.items) f
     → ((m : List ℕ) (e : ℕ) → f ≡ Named m e → ⊥) → type_of (types_of r.nodes.items) f ≡ t → definitions t ≡ (record { name = name; type = t }) ∷ ds → Closed p s k t (names_of r)
-closed o p q r s name d ds f t k n g fin before plain type defines =
+closed o p q r s name d ds f t k n g fin before kept plain type defines =
     let stood = push_stands r s f fin.nodes ∙ ap (λ x. Some x) type in
     let P : ℕ → Type 0 = λ i. slice_get (types_of s.nodes.items) i ≡ Some t in
     let stands = subst P (sym fin.place) stood in
@@ -56,7 +57,7 @@ closed o p q r s name d ds f t k n g fin before plain type defines =
     let inner : DefinesIn (types_of s.nodes.items) g.made ds = subst Q (sym fin.nodes) (defines_stay r.nodes.items (f ∷ []) g.made ds g.define) in
     let B : List Form → Type 0 = λ fs. EachBefore 0 fs in
     let mid : Parts = record r { nodes = s.nodes } in
-    let pushed = built_push r mid f g.built fin.nodes refl before (λ m e is. absurd (plain m e is)) in
+    let pushed = built_push r mid f g.built fin.nodes refl before kept (λ m e is. absurd (plain m e is)) in
     let L : List Definition → Type 0 = λ xs. (i : ℕ) (m : List ℕ) (e : ℕ) → slice_get s.nodes.items i ≡ Some (Named m e) → FirstNamed xs m e in
     record {
       stands = stands;
@@ -67,14 +68,14 @@ closed o p q r s name d ds f t k n g fin before plain type defines =
         made = (record { name = name; node = k }) ∷ g.made;
         definitions_are = defined;
         define = subst R (sym defines) (refl, stands, inner);
-        built = record { before = pushed.before; leads = subst L (sym fin.definitions) (λ i m e h. first_defined_at r.definitions d k m e (pushed.leads i m e h)) };
+        built = record { before = pushed.before; named = pushed.named; leads = subst L (sym fin.definitions) (λ i m e h. first_defined_at r.definitions d k m e (pushed.leads i m e h)) };
       };
     }
 
 pub closed_tells : (o : Outcome AvroType) (u : Result (List ℕ) SchemaNo) (p q r s : Parts) (name : List ℕ) (d : ℕ) (ds : List Defined) (f : Form) (t : AvroType) (res : Result ℕ SchemaNo) → NamesNew u p q name d → Grows q r ds
-    → IfOk res (Finishes r s d f) → IfErr res (λ e. e ≡ Want) → AreBefore (length r.nodes.items) f → ((m : List ℕ) (e : ℕ) → f ≡ Named m e → ⊥) → type_of (types_of r.nodes.items) f ≡ t → definitions t ≡ (record { name = name; type = t }) ∷ ds
+    → IfOk res (Finishes r s d f) → IfErr res (λ e. e ≡ Want) → AreBefore (length r.nodes.items) f → IsNamed (types_of r.nodes.items) f → ((m : List ℕ) (e : ℕ) → f ≡ Named m e → ⊥) → type_of (types_of r.nodes.items) f ≡ t → definitions t ≡ (record { name = name; type = t }) ∷ ds
     → o ≡ Ok (record { value = t; names = names_of r }) → Tells o p s res
-closed_tells o u p q r s name d ds f t (Ok k) n g fin want before plain type defines is =
-    let c = closed u p q r s name d ds f t k n g fin before plain type defines in
+closed_tells o u p q r s name d ds f t (Ok k) n g fin want before kept plain type defines is =
+    let c = closed u p q r s name d ds f t k n g fin before kept plain type defines in
     record { t = t; is = is ∙ ap (λ names. Ok (record { value = t; names = names })) (sym c.names_are); stands = c.stands; grows = c.grows }
-closed_tells o u p q r s name d ds f t (Err e) n g fin want before plain type defines is = inr want
+closed_tells o u p q r s name d ds f t (Err e) n g fin want before kept plain type defines is = inr want

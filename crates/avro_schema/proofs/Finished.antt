@@ -5,7 +5,7 @@ use Rattle.std.specs.Str.{bytes_eq}
 use Rattle.std.proofs.lemmas.List.Elements.{All-nil, All-cons, All-append, All-head, All-tail}
 use Rattle.std.proofs.lemmas.Option.{slice_get_within, get_or_from_slice_get}
 use Rattle.avro_schema.specs.Types.{AvroType, Branches, Fields, Defined, null, boolean, int, long, bytes, string, array, map, union, fixed, enum_, record_, named, no_branches, branch, no_fields, field, definitions, branch_definitions, field_definitions, definition_or, resolved}
-use Rattle.avro_schema.specs.Forms.{type_at, type_of, types_of, is_plain, EachBefore, Leads, IsSchema}
+use Rattle.avro_schema.specs.Forms.{type_at, type_of, types_of, is_plain, EachBefore, IsNamed, EachNamed, Leads, IsSchema}
 use Rattle.avro_schema.specs.Reading.{Outcome, ReadsAs}
 use Rattle.avro_schema.specs.Canonical.{canonical_form}
 use Rattle.avro_names.specs.Definitions.{FirstNamed}
@@ -76,7 +76,7 @@ plain_form ts Bytes h = refl
 plain_form ts Text h = refl
 plain_form ts (Array k) h = refl
 plain_form ts (Map k) h = refl
-plain_form ts (Union v) h = refl
+plain_form ts (Union v names) h = refl
 plain_form ts (Fixed name size) h = refl
 plain_form ts (Enum name v) h = refl
 plain_form ts (Record name v) h = refl
@@ -111,7 +111,7 @@ schema_of_parts p root t f reads =
     let P : AvroType → Type 0 = λ u. ReadsAs true (canonical_form u) u in
     let far = slice_get_within (types_of p.nodes.items) root t f.stands in
     let size = length-types_of p.nodes.items in
-    record { inside = omega arith; before = f.built.before; leads = λ k name d h. leads_of p root t name d f (f.built.leads k name d h); again = subst P (sym (get_or_from_slice_get (types_of p.nodes.items) root t null f.stands)) reads }
+    record { inside = omega arith; before = f.built.before; named = f.built.named; leads = λ k name d h. leads_of p root t name d f (f.built.leads k name d h); again = subst P (sym (get_or_from_slice_get (types_of p.nodes.items) root t null f.stands)) reads }
 
 pub root_inside : (p : Parts) (root : ℕ) (t : AvroType) → Finished p root t → root < length p.nodes.items
 root_inside p root t f = let far = slice_get_within (types_of p.nodes.items) root t f.stands in let size = length-types_of p.nodes.items in omega arith
@@ -124,10 +124,13 @@ whole_is p root t f = get_or_from_slice_get (types_of p.nodes.items) root t null
 no_node : (k : ℕ) (name : List ℕ) (e : ℕ) → slice_get {X = Form} [] k ≡ Some (Named name e) → ⊥
 no_node k name e h = cc
 
+none_named : EachNamed []
+none_named k f h = absurd cc
+
 pub empty_built : (p : Parts) → p.nodes.items ≡ [] → p.definitions ≡ [] → IsBuilt p
 empty_built p n d =
     let P : List Form → Type 0 = λ fs. EachBefore 0 fs in
-    record { before = subst P (sym n) tt; leads = λ k name e h. absurd (no_node k name e (ap (λ fs. slice_get fs k) (sym n) ∙ h)) }
+    record { before = subst P (sym n) tt; named = subst EachNamed (sym n) none_named; leads = λ k name e h. absurd (no_node k name e (ap (λ fs. slice_get fs k) (sym n) ∙ h)) }
 
 pub finished : (o : Outcome AvroType) (p q : Parts) (k : ℕ) → p.nodes.items ≡ [] → p.definitions ≡ [] → (m : Makes o p q k) → Finished q k m.t
 finished o p q k n d m =

@@ -4,14 +4,15 @@ use Rattle.std.specs.List.{slice_get, All}
 use Rattle.std.proofs.lemmas.Option.{slice_get_within, get_or_from_slice_get, slice_get-get_or, slice_get_read}
 use Rattle.std.proofs.lemmas.List.Elements.{All-head, All-tail}
 use Rattle.avro_schema.specs.Types.{AvroType, Branches, Fields, null, union, enum_, record_, named, resolved, branch_name}
-use Rattle.avro_schema.specs.Forms.{type_at, branches_at, fields_at, type_of, types_of, AreBefore, EachBefore, is_plain, Leads, IsSchema, IsFormOf}
+use Rattle.avro_schema.specs.Forms.{type_at, branches_at, fields_at, type_of, types_of, AreBefore, EachBefore, names_of_branches, IsNamed, is_plain, Leads, IsSchema, IsFormOf}
 use Rattle.avro_schema.specs.Nodes.{SchemaValue, tree_of, Stands, Resolves, StandForBranches, StandForFields, IsKindOf, IsOfKind}
-use Rattle.avro_schema.specs.Picks.{kind_in, branches_in, symbols_in, fields_in, name_in}
+use Rattle.avro_schema.specs.Distinct.{branch_names}
+use Rattle.avro_schema.specs.Picks.{kind_in, branches_in, names_in, symbols_in, fields_in, name_in}
 use Rattle.avro_schema.specs.declared.parts.Form.{Form}
 use Rattle.avro_schema.specs.declared.parts.Form.TheVariants.{Null, Boolean, Int, Long, Bytes, Text, Array, Map, Union, Fixed, Enum, Record, Named}
 use Rattle.avro_schema.specs.declared.parts.Field.{Field}
 use Rattle.avro_names.specs.declared.definitions.Definition.{Definition}
-use Rattle.avro_schema.proofs.Grown.{type_is, length-types_of}
+use Rattle.avro_schema.proofs.Grown.{type_is, length-types_of, before_is}
 
 -- ---- the form that a node resolves to
 
@@ -42,7 +43,7 @@ resolved_plain whole ts Bytes h = refl
 resolved_plain whole ts Text h = refl
 resolved_plain whole ts (Array k) h = refl
 resolved_plain whole ts (Map k) h = refl
-resolved_plain whole ts (Union v) h = refl
+resolved_plain whole ts (Union v names) h = refl
 resolved_plain whole ts (Fixed name size) h = refl
 resolved_plain whole ts (Enum name v) h = refl
 resolved_plain whole ts (Record name v) h = refl
@@ -57,7 +58,7 @@ not_named Bytes h = refl
 not_named Text h = refl
 not_named (Array k) h = refl
 not_named (Map k) h = refl
-not_named (Union v) h = refl
+not_named (Union v names) h = refl
 not_named (Fixed name size) h = refl
 not_named (Enum name v) h = refl
 not_named (Record name v) h = refl
@@ -98,15 +99,6 @@ node_inside nodes k t h = let inside = slice_get_within (types_of nodes) k t h i
 pub inside_stands : (nodes : List Form) (k : ℕ) → k < length nodes → slice_get (types_of nodes) k ≡ Some (type_at (types_of nodes) k)
 inside_stands nodes k h = let size = length-types_of nodes in let lt : k < length (types_of nodes) = omega arith in slice_get-get_or (types_of nodes) k null lt
 
-pub before_is : (n k : ℕ) (fs : List Form) (f : Form) → EachBefore n fs → slice_get fs k ≡ Some f → (m : ℕ) → m ≡ n + k → AreBefore m f
-before_is n k [] f b h m e = absurd cc
-before_is n zero (g ∷ fs) f b h m e =
-    let same : g ≡ f = cc in
-    let at : n ≡ m = omega arith in
-    let P : Form → Type 0 = λ x. AreBefore m x in
-    let Q : ℕ → Type 0 = λ i. AreBefore i g in subst P same (subst Q at b.0)
-before_is n (suc k) (g ∷ fs) f b h m e = before_is (suc n) k fs f b.1 h m (omega arith)
-
 branches_stand : (nodes : List Form) (root n : ℕ) (ks : List ℕ) → n < suc (length nodes) → All (λ c. c < n) ks → StandForBranches (record { nodes = nodes; root = root }) ks (branches_at (types_of nodes) ks)
 branches_stand nodes root n [] lt h = tt
 branches_stand nodes root n (k ∷ ks) lt h =
@@ -130,7 +122,7 @@ fits nodes root k Bytes lt b p = refl
 fits nodes root k Text lt b p = refl
 fits nodes root k (Array c) lt b p = (c, refl, inside_stands nodes c (omega arith))
 fits nodes root k (Map c) lt b p = (c, refl, inside_stands nodes c (omega arith))
-fits nodes root k (Union v) lt b p = refl
+fits nodes root k (Union v names) lt b p = refl
 fits nodes root k (Fixed name size) lt b p = refl
 fits nodes root k (Enum name v) lt b p = refl
 fits nodes root k (Record name v) lt b p = refl
@@ -164,14 +156,14 @@ of_kind nodes root k at Bytes lt b p r = r
 of_kind nodes root k at Text lt b p r = r
 of_kind nodes root k at (Array c) lt b p r = (type_at (types_of nodes) c, r, inside_stands nodes c (omega arith))
 of_kind nodes root k at (Map c) lt b p r = (type_at (types_of nodes) c, r, inside_stands nodes c (omega arith))
-of_kind nodes root k at (Union v) lt b p r = (branches_at (types_of nodes) v.items, r)
+of_kind nodes root k at (Union v names) lt b p r = (branches_at (types_of nodes) v.items, r)
 of_kind nodes root k at (Fixed name size) lt b p r = (name, r)
 of_kind nodes root k at (Enum name v) lt b p r = (name, v, r)
 of_kind nodes root k at (Record name v) lt b p r = (name, fields_at (types_of nodes) v.items, r)
 of_kind nodes root k at (Named name d) lt b p r = absurd cc
 
 union_inside : (nodes : List Form) (root at : ℕ) (f : Form) (bs : Branches) → at < length nodes → AreBefore at f → type_of (types_of nodes) f ≡ union bs → StandForBranches (record { nodes = nodes; root = root }) (branches_in f) bs
-union_inside nodes root at (Union v) bs lt b e =
+union_inside nodes root at (Union v names) bs lt b e =
     let P : Branches → Type 0 = λ x. StandForBranches (record { nodes = nodes; root = root }) v.items x in
     let same : branches_at (types_of nodes) v.items ≡ bs = cc in
     subst P same (branches_stand nodes root at v.items (omega arith) b)
@@ -188,9 +180,29 @@ union_inside nodes root at (Enum name v) bs lt b e = absurd cc
 union_inside nodes root at (Record name v) bs lt b e = absurd cc
 union_inside nodes root at (Named name d) bs lt b e = absurd cc
 
+names_by_nodes : (ts : List AvroType) (ks : List ℕ) → names_of_branches ts ks ≡ branch_names (branches_at ts ks)
+names_by_nodes ts [] = refl
+names_by_nodes ts (k ∷ ks) = ap (λ ns. branch_name (type_at ts k) ∷ ns) (names_by_nodes ts ks)
+
+names_inside : (ts : List AvroType) (f : Form) (bs : Branches) → IsNamed ts f → type_of ts f ≡ union bs → names_in f ≡ branch_names bs
+names_inside ts (Union v names) bs is e =
+    let same : branches_at ts v.items ≡ bs = cc in is ∙ names_by_nodes ts v.items ∙ ap branch_names same
+names_inside ts Null bs is e = absurd cc
+names_inside ts Boolean bs is e = absurd cc
+names_inside ts Int bs is e = absurd cc
+names_inside ts Long bs is e = absurd cc
+names_inside ts Bytes bs is e = absurd cc
+names_inside ts Text bs is e = absurd cc
+names_inside ts (Array c) bs is e = absurd cc
+names_inside ts (Map c) bs is e = absurd cc
+names_inside ts (Fixed name size) bs is e = absurd cc
+names_inside ts (Enum name v) bs is e = absurd cc
+names_inside ts (Record name v) bs is e = absurd cc
+names_inside ts (Named name d) bs is e = absurd cc
+
 enum_inside : (ts : List AvroType) (f : Form) (n : List ℕ) (ss : List (List ℕ)) → type_of ts f ≡ enum_ n ss → symbols_in f ≡ ss
 enum_inside ts (Enum name v) n ss e = cc
-enum_inside ts (Union v) n ss e = absurd cc
+enum_inside ts (Union v names) n ss e = absurd cc
 enum_inside ts Null n ss e = absurd cc
 enum_inside ts Boolean n ss e = absurd cc
 enum_inside ts Int n ss e = absurd cc
@@ -216,7 +228,7 @@ record_inside nodes root at Bytes n fs lt b e = absurd cc
 record_inside nodes root at Text n fs lt b e = absurd cc
 record_inside nodes root at (Array c) n fs lt b e = absurd cc
 record_inside nodes root at (Map c) n fs lt b e = absurd cc
-record_inside nodes root at (Union v) n fs lt b e = absurd cc
+record_inside nodes root at (Union v names) n fs lt b e = absurd cc
 record_inside nodes root at (Fixed name size) n fs lt b e = absurd cc
 record_inside nodes root at (Enum name v) n fs lt b e = absurd cc
 record_inside nodes root at (Named name d) n fs lt b e = absurd cc
@@ -230,7 +242,7 @@ name_inside ts Bytes = refl
 name_inside ts Text = refl
 name_inside ts (Array c) = refl
 name_inside ts (Map c) = refl
-name_inside ts (Union v) = refl
+name_inside ts (Union v names) = refl
 name_inside ts (Fixed name size) = refl
 name_inside ts (Enum name v) = refl
 name_inside ts (Record name v) = refl
@@ -261,6 +273,11 @@ module _ (s : SchemaValue) (nodes : List Form) (ds : List Definition) (root : �
       let P : SchemaValue → Type 0 = λ x. (bs : Branches) → Resolves x k (union bs) → StandForBranches x (branches_in f) bs in
       let before = before_is 0 i.at nodes f is.before i.is i.at (omega arith) in
       subst P seen (λ bs r. union_inside nodes root i.at f bs (slice_get_within nodes i.at f i.is) before (resolves_to nodes root k f (union bs) i r))
+
+  pub names_are : (k : ℕ) (f : Form) → IsFormOf nodes root k f → (bs : Branches) → Resolves s k (union bs) → names_in f ≡ branch_names bs
+  names_are k f i =
+      let P : SchemaValue → Type 0 = λ x. (bs : Branches) → Resolves x k (union bs) → names_in f ≡ branch_names bs in
+      subst P seen (λ bs r. names_inside (types_of nodes) f bs (is.named i.at f i.is) (resolves_to nodes root k f (union bs) i r))
 
   pub symbols_are : (k : ℕ) (f : Form) → IsFormOf nodes root k f → (n : List ℕ) (ss : List (List ℕ)) → Resolves s k (enum_ n ss) → symbols_in f ≡ ss
   symbols_are k f i =

@@ -5,8 +5,8 @@ use Rattle.std.proofs.lemmas.List.{get_or_append_left}
 use Rattle.std.proofs.lemmas.List.Elements.{All-head, All-tail}
 use Rattle.std.proofs.lemmas.Option.{slice_get_within, get_or_from_slice_get, slice_get-get_or}
 use Rattle.std.proofs.Math.Seq.{get_or-append_seam}
-use Rattle.avro_schema.specs.Types.{AvroType, null, array, map, union, record_}
-use Rattle.avro_schema.specs.Forms.{type_at, branches_at, fields_at, type_of, types_behind, types_of, AreBefore, EachBefore}
+use Rattle.avro_schema.specs.Types.{AvroType, null, array, map, union, record_, branch_name}
+use Rattle.avro_schema.specs.Forms.{type_at, branches_at, fields_at, type_of, types_behind, types_of, AreBefore, EachBefore, names_of_branches, IsNamed}
 use Rattle.avro_schema.specs.declared.parts.Form.{Form}
 use Rattle.avro_schema.specs.declared.parts.Form.TheVariants.{Null, Boolean, Int, Long, Bytes, Text, Array, Map, Union, Fixed, Enum, Record, Named}
 use Rattle.avro_schema.specs.declared.parts.Field.{Field}
@@ -20,6 +20,12 @@ branches_same ts us n [] same h = refl
 branches_same ts us n (k ∷ ks) same h =
     let first = same k (All-head (λ c. c < n) k ks h) in
     let rest = branches_same ts us n ks same (All-tail (λ c. c < n) k ks h) in cc
+
+pub names_same : (ts us : List AvroType) (n : ℕ) (ks : List ℕ) → Agree n ts us → All (λ c. c < n) ks → names_of_branches ts ks ≡ names_of_branches us ks
+names_same ts us n [] same h = refl
+names_same ts us n (k ∷ ks) same h =
+    let first = ap branch_name (same k (All-head (λ c. c < n) k ks h)) in
+    let rest = names_same ts us n ks same (All-tail (λ c. c < n) k ks h) in cc
 
 pub fields_same : (ts us : List AvroType) (n : ℕ) (fs : List Field) → Agree n ts us → All (λ f. f.node < n) fs → fields_at ts fs ≡ fields_at us fs
 fields_same ts us n [] same h = refl
@@ -36,11 +42,26 @@ type_of_same ts us n Bytes same h = refl
 type_of_same ts us n Text same h = refl
 type_of_same ts us n (Array k) same h = ap (λ t. array t) (same k h)
 type_of_same ts us n (Map k) same h = ap (λ t. map t) (same k h)
-type_of_same ts us n (Union v) same h = ap (λ t. union t) (branches_same ts us n v.items same h)
+type_of_same ts us n (Union v names) same h = ap (λ t. union t) (branches_same ts us n v.items same h)
 type_of_same ts us n (Fixed name size) same h = refl
 type_of_same ts us n (Enum name v) same h = refl
 type_of_same ts us n (Record name v) same h = ap (λ t. record_ name t) (fields_same ts us n v.items same h)
 type_of_same ts us n (Named name d) same h = refl
+
+pub named_same : (ts us : List AvroType) (n : ℕ) (f : Form) → Agree n ts us → AreBefore n f → IsNamed ts f → IsNamed us f
+named_same ts us n Null same h is = tt
+named_same ts us n Boolean same h is = tt
+named_same ts us n Int same h is = tt
+named_same ts us n Long same h is = tt
+named_same ts us n Bytes same h is = tt
+named_same ts us n Text same h is = tt
+named_same ts us n (Array k) same h is = tt
+named_same ts us n (Map k) same h is = tt
+named_same ts us n (Union v names) same h is = is ∙ names_same ts us n v.items same h
+named_same ts us n (Fixed name size) same h is = tt
+named_same ts us n (Enum name v) same h is = tt
+named_same ts us n (Record name v) same h is = tt
+named_same ts us n (Named name d) same h is = tt
 
 pub types_behind-append : (ts : List AvroType) (fs gs : List Form) → types_behind ts (fs ++ gs) ≡ types_behind (types_behind ts fs) gs
 types_behind-append ts [] gs = refl
@@ -115,3 +136,18 @@ stands_stay fs more k t h =
 pub each_push : (n : ℕ) (fs : List Form) (f : Form) (m : ℕ) → EachBefore n fs → m ≡ n + length fs → AreBefore m f → EachBefore n (fs ++ (f ∷ []))
 each_push n [] f m b e h = let at : m ≡ n = omega arith in let P : ℕ → Type 0 = λ i. AreBefore i f in (subst P at h, tt)
 each_push n (g ∷ fs) f m b e h = (b.0, each_push (suc n) fs f m b.1 (omega arith) h)
+
+pub before_is : (n k : ℕ) (fs : List Form) (f : Form) → EachBefore n fs → slice_get fs k ≡ Some f → (m : ℕ) → m ≡ n + k → AreBefore m f
+before_is n k [] f b h m e = absurd cc
+before_is n zero (g ∷ fs) f b h m e =
+    let same : g ≡ f = cc in
+    let at : n ≡ m = omega arith in
+    let P : Form → Type 0 = λ x. AreBefore m x in
+    let Q : ℕ → Type 0 = λ i. AreBefore i g in subst P same (subst Q at b.0)
+before_is n (suc k) (g ∷ fs) f b h m e = before_is (suc n) k fs f b.1 h m (omega arith)
+
+-- nodes that are added leave the names of those before them
+pub named_stay : (fs more : List Form) (k : ℕ) (f : Form) → EachBefore 0 fs → slice_get fs k ≡ Some f → IsNamed (types_of fs) f → IsNamed (types_of (fs ++ more)) f
+named_stay fs more k f b h is =
+    let inside = slice_get_within fs k f h in
+    named_same (types_of fs) (types_of (fs ++ more)) k f (λ i lt. types_stay fs more i (omega arith)) (before_is 0 k fs f b h k (omega arith)) is

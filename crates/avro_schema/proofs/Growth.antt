@@ -3,7 +3,7 @@ use Rattle.std.proofs.Common.{◌≡◌, ℕ, zero, suc, List, [], ◌∷◌, �
 use Rattle.std.specs.List.{slice_get}
 use Rattle.std.proofs.lemmas.List.{append-nil}
 use Rattle.avro_schema.specs.Types.{AvroType, Defined, definitions}
-use Rattle.avro_schema.specs.Forms.{type_of, types_of, AreBefore, EachBefore}
+use Rattle.avro_schema.specs.Forms.{type_of, types_of, AreBefore, EachBefore, IsNamed, EachNamed}
 use Rattle.avro_schema.specs.Reading.{Outcome}
 use Rattle.avro_names.specs.Definitions.{names_in, FirstNamed}
 use Rattle.avro_schema.specs.Building.{names_of, IsBuilt, DefinesIn, Grows, Makes, Tells}
@@ -13,7 +13,7 @@ use Rattle.avro_names.specs.declared.definitions.Definition.{Definition}
 use Rattle.avro_schema.specs.declared.parts.Parts.{Parts}
 use Rattle.avro_names.specs.declared.error.SchemaNo.{SchemaNo}
 use Rattle.avro_names.specs.declared.error.SchemaNo.TheVariants.{Want}
-use Rattle.avro_schema.proofs.Grown.{stands_stay, each_push, length-types_of, types_of-push}
+use Rattle.avro_schema.proofs.Grown.{stands_stay, each_push, length-types_of, types_of-push, types_stay, named_same, named_stay}
 
 -- ---- lists
 
@@ -57,7 +57,7 @@ pub built_same : (p q : Parts) → p.nodes.items ≡ q.nodes.items → p.definit
 built_same p q n d b =
     let P : List Form → Type 0 = λ fs. EachBefore 0 fs in
     let Q : List Definition → Type 0 = λ xs. (k : ℕ) (name : List ℕ) (e : ℕ) → slice_get q.nodes.items k ≡ Some (Named name e) → FirstNamed xs name e in
-    record { before = subst P n b.before; leads = subst Q d (λ k name e h. b.leads k name e (ap (λ fs. slice_get fs k) n ∙ h)) }
+    record { before = subst P n b.before; named = subst EachNamed n b.named; leads = subst Q d (λ k name e h. b.leads k name e (ap (λ fs. slice_get fs k) n ∙ h)) }
 
 pub grows_refl : (p : Parts) → IsBuilt p → Grows p p []
 grows_refl p b = record { more = []; nodes_are = sym (append-nil p.nodes.items); made = []; definitions_are = sym (append-nil p.definitions); define = tt; built = b }
@@ -81,21 +81,30 @@ grows_along p q ds es e g = let P : List Defined → Type 0 = λ xs. Grows p q x
 pub stands_later : (p q : Parts) (ds : List Defined) (k : ℕ) (t : AvroType) → Grows p q ds → slice_get (types_of p.nodes.items) k ≡ Some t → slice_get (types_of q.nodes.items) k ≡ Some t
 stands_later p q ds k t g h = let P : List Form → Type 0 = λ fs. slice_get (types_of fs) k ≡ Some t in subst P (sym g.nodes_are) (stands_stay p.nodes.items g.more k t h)
 
+named_push : (fs : List Form) (f : Form) → EachBefore 0 fs → EachNamed fs → AreBefore (length fs) f → IsNamed (types_of fs) f → EachNamed (fs ++ (f ∷ []))
+named_push fs f b old before kept k g h =
+    let G : (slice_get fs k ≡ Some g) ⊎ (f ≡ g) → Type 0 = λ s. IsNamed (types_of (fs ++ (f ∷ []))) g in
+    let P : Form → Type 0 = λ x. IsNamed (types_of (fs ++ (f ∷ []))) x in
+    elim (get_push fs f k g h) as G [
+      | inl at ↦ named_stay fs (f ∷ []) k g b at (old k g at)
+      | inr same ↦ subst P same (named_same (types_of fs) (types_of (fs ++ (f ∷ []))) (length fs) f (types_stay fs (f ∷ [])) before kept)
+    ]
+
 -- one node more
-pub built_push : (p q : Parts) (f : Form) → IsBuilt p → q.nodes.items ≡ p.nodes.items ++ (f ∷ []) → q.definitions ≡ p.definitions → AreBefore (length p.nodes.items) f
+pub built_push : (p q : Parts) (f : Form) → IsBuilt p → q.nodes.items ≡ p.nodes.items ++ (f ∷ []) → q.definitions ≡ p.definitions → AreBefore (length p.nodes.items) f → IsNamed (types_of p.nodes.items) f
     → ((name : List ℕ) (d : ℕ) → f ≡ Named name d → FirstNamed p.definitions name d) → IsBuilt q
-built_push p q f b n d before named =
+built_push p q f b n d before kept named =
     let P : List Form → Type 0 = λ fs. EachBefore 0 fs in
     let Q : List Definition → Type 0 = λ xs. (k : ℕ) (name : List ℕ) (e : ℕ) → slice_get q.nodes.items k ≡ Some (Named name e) → FirstNamed xs name e in
     let leads = λ (k : ℕ) (name : List ℕ) (e : ℕ) (h : slice_get q.nodes.items k ≡ Some (Named name e)).
     let G : (slice_get p.nodes.items k ≡ Some (Named name e)) ⊎ (f ≡ Named name e) → Type 0 = λ s. FirstNamed p.definitions name e in
     elim (get_push p.nodes.items f k (Named name e) (ap (λ fs. slice_get fs k) (sym n) ∙ h)) as G [ inl old ↦ b.leads k name e old | inr new ↦ named name e new ] in
-    record { before = subst P (sym n) (each_push 0 p.nodes.items f (length p.nodes.items) b.before (omega arith) before); leads = subst Q (sym d) leads }
+    record { before = subst P (sym n) (each_push 0 p.nodes.items f (length p.nodes.items) b.before (omega arith) before); named = subst EachNamed (sym n) (named_push p.nodes.items f b.before b.named before kept); leads = subst Q (sym d) leads }
 
-pub pushed : (p q : Parts) (f : Form) → IsBuilt p → q.nodes.items ≡ p.nodes.items ++ (f ∷ []) → q.definitions ≡ p.definitions → AreBefore (length p.nodes.items) f
+pub pushed : (p q : Parts) (f : Form) → IsBuilt p → q.nodes.items ≡ p.nodes.items ++ (f ∷ []) → q.definitions ≡ p.definitions → AreBefore (length p.nodes.items) f → IsNamed (types_of p.nodes.items) f
     → ((name : List ℕ) (d : ℕ) → f ≡ Named name d → FirstNamed p.definitions name d) → Grows p q []
-pushed p q f b n d before named =
-    record { more = f ∷ []; nodes_are = n; made = []; definitions_are = d ∙ sym (append-nil p.definitions); define = tt; built = built_push p q f b n d before named }
+pushed p q f b n d before kept named =
+    record { more = f ∷ []; nodes_are = n; made = []; definitions_are = d ∙ sym (append-nil p.definitions); define = tt; built = built_push p q f b n d before kept named }
 
 pub push_stands : (p q : Parts) (f : Form) → q.nodes.items ≡ p.nodes.items ++ (f ∷ []) → slice_get (types_of q.nodes.items) (length p.nodes.items) ≡ Some (type_of (types_of p.nodes.items) f)
 push_stands p q f n =
@@ -105,19 +114,19 @@ push_stands p q f n =
 
 -- a node that is added behind what was read
 pub made_push : (o : Outcome AvroType) (p q r : Parts) (f : Form) (t : AvroType) (k : ℕ) (ds : List Defined) → Grows p q ds → o ≡ Ok (record { value = t; names = names_of q }) → k ≡ length q.nodes.items → r.nodes.items ≡ q.nodes.items ++ (f ∷ [])
-    → r.definitions ≡ q.definitions → AreBefore (length q.nodes.items) f → ((name : List ℕ) (d : ℕ) → f ≡ Named name d → FirstNamed q.definitions name d) → type_of (types_of q.nodes.items) f ≡ t → definitions t ≡ ds
+    → r.definitions ≡ q.definitions → AreBefore (length q.nodes.items) f → IsNamed (types_of q.nodes.items) f → ((name : List ℕ) (d : ℕ) → f ≡ Named name d → FirstNamed q.definitions name d) → type_of (types_of q.nodes.items) f ≡ t → definitions t ≡ ds
     → Makes o p r k
-made_push o p q r f t k ds g is place n d before named type defines =
+made_push o p q r f t k ds g is place n d before kept named type defines =
     let P : ℕ → Type 0 = λ i. slice_get (types_of r.nodes.items) i ≡ Some t in
     record {
       t = t;
       is = is ∙ ap (λ xs. Ok (record { value = t; names = names_in xs })) (sym d);
       stands = subst P (sym place) (push_stands q r f n ∙ ap (λ x. Some x) type);
-      grows = grows_along p r (ds ++ []) (definitions t) (append-nil ds ∙ sym defines) (grows_trans p q r ds [] g (pushed q r f g.built n d before named));
+      grows = grows_along p r (ds ++ []) (definitions t) (append-nil ds ∙ sym defines) (grows_trans p q r ds [] g (pushed q r f g.built n d before kept named));
     }
 
 pub tells_push : (o : Outcome AvroType) (p q r : Parts) (f : Form) (t : AvroType) (res : Result ℕ SchemaNo) (ds : List Defined) → Grows p q ds → o ≡ Ok (record { value = t; names = names_of q })
-    → IfOk res (λ k. (k ≡ length q.nodes.items) × (r.nodes.items ≡ q.nodes.items ++ (f ∷ []))) → IfErr res (λ e. e ≡ Want) → r.definitions ≡ q.definitions → AreBefore (length q.nodes.items) f
+    → IfOk res (λ k. (k ≡ length q.nodes.items) × (r.nodes.items ≡ q.nodes.items ++ (f ∷ []))) → IfErr res (λ e. e ≡ Want) → r.definitions ≡ q.definitions → AreBefore (length q.nodes.items) f → IsNamed (types_of q.nodes.items) f
     → ((name : List ℕ) (d : ℕ) → f ≡ Named name d → FirstNamed q.definitions name d) → type_of (types_of q.nodes.items) f ≡ t → definitions t ≡ ds → Tells o p r res
-tells_push o p q r f t (Ok k) ds g is ok want d before named type defines = made_push o p q r f t k ds g is ok.0 ok.1 d before named type defines
-tells_push o p q r f t (Err e) ds g is ok want d before named type defines = inr want
+tells_push o p q r f t (Ok k) ds g is ok want d before kept named type defines = made_push o p q r f t k ds g is ok.0 ok.1 d before kept named type defines
+tells_push o p q r f t (Err e) ds g is ok want d before kept named type defines = inr want

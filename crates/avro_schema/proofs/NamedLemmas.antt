@@ -5,7 +5,7 @@ use Rattle.std.specs.Prelude.{codes}
 use Rattle.avro_schema.specs.Types as types
 use Rattle.avro_schema.specs.Types.{AvroType, definitions}
 use Rattle.avro_names.specs.Names.{is_float}
-use Rattle.avro_schema.specs.Forms.{type_of, types_of, AreBefore}
+use Rattle.avro_schema.specs.Forms.{type_of, types_of, AreBefore, IsNamed}
 use Rattle.avro_schema.specs.Reading.{Outcome, reads, known, type_by_name}
 use Rattle.avro_names.specs.MemberNames.{full_name}
 use Rattle.avro_schema.specs.Building.{names_of, IsBuilt, Tells, primitive_form}
@@ -21,7 +21,7 @@ use Rattle.avro_names.proofs.DefinitionLemmas.{first_among}
 
 -- a form that stands alone
 abbrev pub IsLeaf : Form → Type 0
-IsLeaf f = ((n : ℕ) → AreBefore n f) × ((name : List ℕ) (d : ℕ) → f ≡ Named name d → ⊥) × ((ts : List AvroType) → definitions (type_of ts f) ≡ [])
+IsLeaf f = ((n : ℕ) → AreBefore n f) × ((name : List ℕ) (d : ℕ) → f ≡ Named name d → ⊥) × ((ts : List AvroType) → definitions (type_of ts f) ≡ []) × ((ts : List AvroType) → IsNamed ts f)
 
 -- what the tests of a name choose
 abbrev chosen : {T : Type 0} → Bool → Bool → Bool → Bool → Bool → Bool → T → T → T → T → T → T → T → T
@@ -30,12 +30,12 @@ chosen a b c d e f u v w x y z other = cond a u (cond b v (cond c w (cond d x (c
 leaf_chosen : (names : List (List ℕ)) (other : Outcome AvroType) (a b c d e f : Bool) (form : Form)
     → chosen a b c d e f (Some Null) (Some Boolean) (Some Int) (Some Long) (Some Bytes) (Some Text) None ≡ Some form
     → IsLeaf form × ((ts : List AvroType) → chosen a b c d e f (reads types.null names) (reads types.boolean names) (reads types.int names) (reads types.long names) (reads types.bytes names) (reads types.string names) other ≡ reads (type_of ts form) names)
-leaf_chosen names other true b c d e f form h = let P : Form → Type 0 = λ g. IsLeaf g × ((ts : List AvroType) → reads types.null names ≡ reads (type_of ts g) names) in let same : Null ≡ form = cc in subst P same ((λ n. tt, λ name i q. cc, λ ts. refl), λ ts. refl)
-leaf_chosen names other false true c d e f form h = let P : Form → Type 0 = λ g. IsLeaf g × ((ts : List AvroType) → reads types.boolean names ≡ reads (type_of ts g) names) in let same : Boolean ≡ form = cc in subst P same ((λ n. tt, λ name i q. cc, λ ts. refl), λ ts. refl)
-leaf_chosen names other false false true d e f form h = let P : Form → Type 0 = λ g. IsLeaf g × ((ts : List AvroType) → reads types.int names ≡ reads (type_of ts g) names) in let same : Int ≡ form = cc in subst P same ((λ n. tt, λ name i q. cc, λ ts. refl), λ ts. refl)
-leaf_chosen names other false false false true e f form h = let P : Form → Type 0 = λ g. IsLeaf g × ((ts : List AvroType) → reads types.long names ≡ reads (type_of ts g) names) in let same : Long ≡ form = cc in subst P same ((λ n. tt, λ name i q. cc, λ ts. refl), λ ts. refl)
-leaf_chosen names other false false false false true f form h = let P : Form → Type 0 = λ g. IsLeaf g × ((ts : List AvroType) → reads types.bytes names ≡ reads (type_of ts g) names) in let same : Bytes ≡ form = cc in subst P same ((λ n. tt, λ name i q. cc, λ ts. refl), λ ts. refl)
-leaf_chosen names other false false false false false true form h = let P : Form → Type 0 = λ g. IsLeaf g × ((ts : List AvroType) → reads types.string names ≡ reads (type_of ts g) names) in let same : Text ≡ form = cc in subst P same ((λ n. tt, λ name i q. cc, λ ts. refl), λ ts. refl)
+leaf_chosen names other true b c d e f form h = let P : Form → Type 0 = λ g. IsLeaf g × ((ts : List AvroType) → reads types.null names ≡ reads (type_of ts g) names) in let same : Null ≡ form = cc in subst P same ((λ n. tt, λ name i q. cc, λ ts. refl, λ ts. tt), λ ts. refl)
+leaf_chosen names other false true c d e f form h = let P : Form → Type 0 = λ g. IsLeaf g × ((ts : List AvroType) → reads types.boolean names ≡ reads (type_of ts g) names) in let same : Boolean ≡ form = cc in subst P same ((λ n. tt, λ name i q. cc, λ ts. refl, λ ts. tt), λ ts. refl)
+leaf_chosen names other false false true d e f form h = let P : Form → Type 0 = λ g. IsLeaf g × ((ts : List AvroType) → reads types.int names ≡ reads (type_of ts g) names) in let same : Int ≡ form = cc in subst P same ((λ n. tt, λ name i q. cc, λ ts. refl, λ ts. tt), λ ts. refl)
+leaf_chosen names other false false false true e f form h = let P : Form → Type 0 = λ g. IsLeaf g × ((ts : List AvroType) → reads types.long names ≡ reads (type_of ts g) names) in let same : Long ≡ form = cc in subst P same ((λ n. tt, λ name i q. cc, λ ts. refl, λ ts. tt), λ ts. refl)
+leaf_chosen names other false false false false true f form h = let P : Form → Type 0 = λ g. IsLeaf g × ((ts : List AvroType) → reads types.bytes names ≡ reads (type_of ts g) names) in let same : Bytes ≡ form = cc in subst P same ((λ n. tt, λ name i q. cc, λ ts. refl, λ ts. tt), λ ts. refl)
+leaf_chosen names other false false false false false true form h = let P : Form → Type 0 = λ g. IsLeaf g × ((ts : List AvroType) → reads types.string names ≡ reads (type_of ts g) names) in let same : Text ≡ form = cc in subst P same ((λ n. tt, λ name i q. cc, λ ts. refl, λ ts. tt), λ ts. refl)
 leaf_chosen names other false false false false false false form h = absurd cc
 
 other_chosen : (names : List (List ℕ)) (other : Outcome AvroType) (a b c d e f : Bool) → ◌≡◌ {A = Option Form} (chosen a b c d e f (Some Null) (Some Boolean) (Some Int) (Some Long) (Some Bytes) (Some Text) None) None
@@ -64,7 +64,7 @@ pub primitive_tells : (p q : Parts) (canonical : Bool) (namespace name : List �
     → IfOk res (λ k. (k ≡ length p.nodes.items) × (q.nodes.items ≡ p.nodes.items ++ (form ∷ []))) → IfErr res (λ e. e ≡ Want) → q.definitions ≡ p.definitions → Tells (type_by_name canonical (names_of p) namespace name) p q res
 primitive_tells p q canonical namespace name form res b h ok want d =
     let by = by_primitive canonical (names_of p) namespace name form h in
-    tells_push _ p p q form (type_of (types_of p.nodes.items) form) res [] (grows_refl p b) (by.1 (types_of p.nodes.items)) ok want d (by.0.0 (length p.nodes.items)) (λ n i e. absurd (by.0.1 n i e)) refl (by.0.2 (types_of p.nodes.items))
+    tells_push _ p p q form (type_of (types_of p.nodes.items) form) res [] (grows_refl p b) (by.1 (types_of p.nodes.items)) ok want d (by.0.0 (length p.nodes.items)) (by.0.3 (types_of p.nodes.items)) (λ n i e. absurd (by.0.1 n i e)) refl (by.0.2 (types_of p.nodes.items))
 
 pub float_why : (canonical : Bool) (names : List (List ℕ)) (namespace name : List ℕ) → primitive_form name ≡ None → is_float name ≡ true → Why (type_by_name canonical names namespace name) Float
 float_why canonical names namespace name h f = inl (by_other canonical names namespace name h ∙ ap (λ t. cond t (Err Float) (known names (full_name canonical namespace name))) f)
@@ -86,7 +86,7 @@ reference_tells p q name d res b first ok want same =
     let names : name ≡ n = cc in
     let numbers : d ≡ i = cc in
     subst Q numbers (subst P names first) in
-    tells_push _ p p q (Named name d) (types.named name) res [] (grows_refl p b) is ok want same tt named refl refl
+    tells_push _ p p q (Named name d) (types.named name) res [] (grows_refl p b) is ok want same tt tt named refl refl
 
 pub unknown_why : (p : Parts) (name : List ℕ) → FindsName p.definitions name None → Why (known (names_of p) name) UnknownName
 unknown_why p name h = inl (ap (λ t. cond t (reads (types.named name) (names_of p)) (Err UnknownName)) h)

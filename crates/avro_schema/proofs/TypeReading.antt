@@ -205,7 +205,7 @@ array_tells below namespace ms p q r k res m ok want d =
     let size = length-types_of q.nodes.items in
     tells_push _ p q r (Array k) (types.array m.t) res (definitions m.t) m.grows
     (next_ok (part_type below (names_of p) namespace (last_member (codes "items") ms)) (record { value = m.t; names = names_of q }) (λ t. reads (types.array t.value) t.names) m.is)
-    ok want d (omega arith) (λ name e x. absurd cc) (ap (λ t. types.array t) (made_place _ p q k m)) refl
+    ok want d (omega arith) tt (λ name e x. absurd cc) (ap (λ t. types.array t) (made_place _ p q k m)) refl
 
 pub map_tells : (below : Reader) (namespace : List ℕ) (ms : Members) (p q r : Parts) (k : ℕ) (res : Result ℕ SchemaNo) → Makes (part_type below (names_of p) namespace (last_member (codes "values") ms)) p q k
     → IfOk res (λ n. (n ≡ length q.nodes.items) × (r.nodes.items ≡ q.nodes.items ++ (Map k ∷ []))) → IfErr res (λ e. e ≡ Want) → r.definitions ≡ q.definitions → Tells (map_read below (names_of p) namespace ms) p r res
@@ -214,7 +214,7 @@ map_tells below namespace ms p q r k res m ok want d =
     let size = length-types_of q.nodes.items in
     tells_push _ p q r (Map k) (types.map m.t) res (definitions m.t) m.grows
     (next_ok (part_type below (names_of p) namespace (last_member (codes "values") ms)) (record { value = m.t; names = names_of q }) (λ t. reads (types.map t.value) t.names) m.is)
-    ok want d (omega arith) (λ name e x. absurd cc) (ap (λ t. types.map t) (made_place _ p q k m)) refl
+    ok want d (omega arith) tt (λ name e x. absurd cc) (ap (λ t. types.map t) (made_place _ p q k m)) refl
 
 pub array_why : (below : Reader) (names : List (List ℕ)) (namespace : List ℕ) (ms : Members) (e : SchemaNo) → Why (part_type below names namespace (last_member (codes "items") ms)) e → Why (array_read below names namespace ms) e
 array_why below names namespace ms e w = why_first _ (λ t. reads (types.array t.value) t.names) e w

@@ -6,8 +6,8 @@ use Rattle.avro_schema.specs.Forms.{type_at, type_of, types_of, AreBefore, EachB
 use Rattle.avro_schema.specs.Picks.{name_in}
 use Rattle.avro_schema.specs.declared.parts.Form.{Form}
 use Rattle.avro_schema.specs.declared.parts.Form.TheVariants.{Null, Boolean, Int, Long, Bytes, Text, Array, Map, Union, Fixed, Enum, Record, Named}
-use Rattle.avro_schema.proofs.Grown.{type_is}
-use Rattle.avro_schema.proofs.Found.{read_is, before_is}
+use Rattle.avro_schema.proofs.Grown.{type_is, before_is}
+use Rattle.avro_schema.proofs.Found.{read_is}
 
 pub on_ok : {T E : Type 0} (res : Result T E) (P Q : Type 0) → (P → Q) → OnOk res P → OnOk res Q
 on_ok (Ok x) P Q f h = f h
@@ -37,7 +37,7 @@ module _ (nodes : List Form) (k : ℕ) (f g : Form) (before : EachBefore 0 nodes
   written old now form spells e = e ∙ ap (λ l. old ++ l) (sym (ap canonical_form form_type ∙ spells))
 
 -- a form that is written as its name
-pub plain_written : (ts : List AvroType) (f : Form) → ((k : ℕ) → f ≡ Array k → ⊥) → ((k : ℕ) → f ≡ Map k → ⊥) → ((v : _) → f ≡ Union v → ⊥) → ((n : List ℕ) (s : ℕ) → f ≡ Fixed n s → ⊥) → ((n : List ℕ) (v : _) → f ≡ Enum n v → ⊥)
+pub plain_written : (ts : List AvroType) (f : Form) → ((k : ℕ) → f ≡ Array k → ⊥) → ((k : ℕ) → f ≡ Map k → ⊥) → ((v : _) (names : _) → f ≡ Union v names → ⊥) → ((n : List ℕ) (s : ℕ) → f ≡ Fixed n s → ⊥) → ((n : List ℕ) (v : _) → f ≡ Enum n v → ⊥)
     → ((n : List ℕ) (v : _) → f ≡ Record n v → ⊥) → canonical_form (type_of ts f) ≡ quote (name_in f)
 plain_written ts Null a b c d e g = refl
 plain_written ts Boolean a b c d e g = refl
@@ -47,7 +47,7 @@ plain_written ts Bytes a b c d e g = refl
 plain_written ts Text a b c d e g = refl
 plain_written ts (Array k) a b c d e g = absurd (a k refl)
 plain_written ts (Map k) a b c d e g = absurd (b k refl)
-plain_written ts (Union v) a b c d e g = absurd (c v refl)
+plain_written ts (Union v names) a b c d e g = absurd (c v names refl)
 plain_written ts (Fixed n s) a b c d e g = absurd (d n s refl)
 plain_written ts (Enum n v) a b c d e g = absurd (e n v refl)
 plain_written ts (Record n v) a b c d e g = absurd (g n v refl)

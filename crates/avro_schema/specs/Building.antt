@@ -4,7 +4,7 @@ use Rattle.json_span.specs.Json.{Json, Items, Members, text, array, object}
 use Rattle.json_span.specs.Nodes.{Stands, StandForMembers, StandForItems}
 use Rattle.json_span.specs.declared.tree.Tree.{Tree}
 use Rattle.json_span.specs.declared.tree.Member.{Member}
-use Rattle.avro_schema.specs.Types.{AvroType, Branches, Fields, Defined, no_branches, branch, no_fields, field, branch_name, definitions, field_definitions, branch_definitions}
+use Rattle.avro_schema.specs.Types.{AvroType, Branches, Fields, Defined, no_branches, branch, no_fields, field, definitions, field_definitions, branch_definitions}
 use Rattle.avro_schema.specs.Reading.{Outcome, Reader, FieldType, fields_read, branches_read, short_enough, ReadsAs}
 use Rattle.avro_names.specs.Outcomes.{Why}
 use Rattle.avro_schema.specs.Canonical.{canonical_form}
@@ -12,7 +12,7 @@ use Rattle.avro_schema.specs.Nodes.{SchemaValue}
 use Rattle.avro_schema.specs.Refusals.{Answers}
 use Rattle.avro_names.specs.Names.{are_parts}
 use Rattle.avro_names.specs.Definitions.{names_in, FirstNamed, defined_at}
-use Rattle.avro_schema.specs.Forms.{type_at, branches_at, fields_at, types_of, EachBefore}
+use Rattle.avro_schema.specs.Forms.{branches_at, fields_at, types_of, EachBefore, EachNamed, names_of_branches}
 use Rattle.avro_schema.specs.declared.parts.Form.{Form}
 use Rattle.avro_schema.specs.declared.parts.Form.TheVariants.{Null, Boolean, Int, Long, Bytes, Text, Named}
 use Rattle.avro_schema.specs.declared.parts.Field.{Field}
@@ -25,9 +25,11 @@ use Rattle.avro_names.specs.declared.error.SchemaNo.TheVariants.{Want}
 abbrev pub names_of : Parts → List (List ℕ)
 names_of p = names_in p.definitions
 
--- each node's parts are before it, and each reference leads to the first definition of its name
+-- each node's parts are before it, each union keeps the names of its branches, and each reference leads to the first definition of
+-- its name
 pub record IsBuilt (p : Parts) : Type 0 where
   pub before : EachBefore 0 p.nodes.items
+  pub named : EachNamed p.nodes.items
   pub leads : (k : ℕ) (name : List ℕ) (d : ℕ) → slice_get p.nodes.items k ≡ Some (Named name d) → FirstNamed p.definitions name d
 
 -- the definitions are those of these types
@@ -98,10 +100,6 @@ pub record FieldsSoFar (tree : Tree) (below : Reader) (namespace : List ℕ) (js
   pub is : fields_read below (names_of old) namespace [] js ≡ in_front (behind_fields (fields_at (types_of new.nodes.items) vs)) (fields_read below (names_of new) namespace (names_of_fields vs) left)
   pub inside : All (λ v. v.node < length new.nodes.items) vs
   pub grows : Grows old new (field_definitions (fields_at (types_of new.nodes.items) vs))
-
-abbrev pub names_of_branches : List AvroType → List ℕ → List (List ℕ)
-names_of_branches ts [] = []
-names_of_branches ts (k ∷ ks) = branch_name (type_at ts k) ∷ names_of_branches ts ks
 
 abbrev pub behind_branches : Branches → Branches → Branches
 behind_branches no_branches rest = rest

@@ -1,6 +1,6 @@
 -- How the nodes that a schema keeps make the types that they stand for. Only private clauses cite it.
 use Rattle.std.specs.Prelude.{◌≡◌, ℕ, suc, ◌<◌, List, [], ◌∷◌, ◌++◌, length, slice_get, slice_index_or, All, Bool, true, false, Some, ⊤}
-use Rattle.avro_schema.specs.Types.{AvroType, Branches, Fields, null, boolean, int, long, bytes, string, array, map, union, fixed, enum_, record_, named, no_branches, branch, no_fields, field, resolved}
+use Rattle.avro_schema.specs.Types.{AvroType, Branches, Fields, null, boolean, int, long, bytes, string, array, map, union, fixed, enum_, record_, named, no_branches, branch, no_fields, field, resolved, branch_name}
 use Rattle.avro_schema.specs.Canonical.{canonical_form}
 use Rattle.avro_schema.specs.Reading.{ReadsAs}
 use Rattle.avro_schema.specs.declared.parts.Form.{Form}
@@ -30,7 +30,7 @@ type_of ts Bytes = bytes
 type_of ts Text = string
 type_of ts (Array k) = array (type_at ts k)
 type_of ts (Map k) = map (type_at ts k)
-type_of ts (Union v) = union (branches_at ts v.items)
+type_of ts (Union v names) = union (branches_at ts v.items)
 type_of ts (Fixed name size) = fixed name size
 type_of ts (Enum name v) = enum_ name v
 type_of ts (Record name v) = record_ name (fields_at ts v.items)
@@ -55,7 +55,7 @@ AreBefore k Bytes = ⊤
 AreBefore k Text = ⊤
 AreBefore k (Array c) = c < k
 AreBefore k (Map c) = c < k
-AreBefore k (Union v) = All (λ c. c < k) v.items
+AreBefore k (Union v names) = All (λ c. c < k) v.items
 AreBefore k (Fixed name size) = ⊤
 AreBefore k (Enum name v) = ⊤
 AreBefore k (Record name v) = All (λ f. f.node < k) v.items
@@ -65,6 +65,31 @@ AreBefore k (Named name d) = ⊤
 abbrev pub EachBefore : ℕ → List Form → Type 0
 EachBefore k [] = ⊤
 EachBefore k (f ∷ fs) = AreBefore k f × EachBefore (suc k) fs
+
+-- the names of branches by their nodes
+abbrev pub names_of_branches : List AvroType → List ℕ → List (List ℕ)
+names_of_branches ts [] = []
+names_of_branches ts (k ∷ ks) = branch_name (type_at ts k) ∷ names_of_branches ts ks
+
+-- a union keeps the names of its branches
+abbrev pub IsNamed : List AvroType → Form → Type 0
+IsNamed ts (Union v names) = names ≡ names_of_branches ts v.items
+IsNamed ts Null = ⊤
+IsNamed ts Boolean = ⊤
+IsNamed ts Int = ⊤
+IsNamed ts Long = ⊤
+IsNamed ts Bytes = ⊤
+IsNamed ts Text = ⊤
+IsNamed ts (Array c) = ⊤
+IsNamed ts (Map c) = ⊤
+IsNamed ts (Fixed name size) = ⊤
+IsNamed ts (Enum name v) = ⊤
+IsNamed ts (Record name v) = ⊤
+IsNamed ts (Named name d) = ⊤
+
+-- each union keeps the names of its branches
+abbrev pub EachNamed : List Form → Type 0
+EachNamed fs = (k : ℕ) (f : Form) → slice_get fs k ≡ Some f → IsNamed (types_of fs) f
 
 -- the form isn't that of a reference
 abbrev pub is_plain : Form → Bool
@@ -84,6 +109,7 @@ pub record Leads (nodes : List Form) (definitions : List Definition) (root : ℕ
 pub record IsSchema (nodes : List Form) (definitions : List Definition) (root : ℕ) : Type 0 where
   pub inside : root < length nodes
   pub before : EachBefore 0 nodes
+  pub named : EachNamed nodes
   pub leads : (k : ℕ) (name : List ℕ) (d : ℕ) → slice_get nodes k ≡ Some (Named name d) → Leads nodes definitions root name d
   pub again : ReadsAs true (canonical_form (type_at (types_of nodes) root)) (type_at (types_of nodes) root)
 

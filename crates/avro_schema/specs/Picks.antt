@@ -16,15 +16,19 @@ kind_in Bytes = kinds.Bytes
 kind_in Text = kinds.Text
 kind_in (Array k) = kinds.Array k
 kind_in (Map k) = kinds.Map k
-kind_in (Union v) = kinds.Union
+kind_in (Union v names) = kinds.Union
 kind_in (Fixed name size) = kinds.Fixed size
 kind_in (Enum name v) = kinds.Enum
 kind_in (Record name v) = kinds.Record
 kind_in (Named name d) = kinds.Null
 
 abbrev pub branches_in : Form → List ℕ
-branches_in (Union v) = v.items
+branches_in (Union v names) = v.items
 branches_in f = []
+
+abbrev pub names_in : Form → List (List ℕ)
+names_in (Union v names) = names
+names_in f = []
 
 abbrev pub symbols_in : Form → List (List ℕ)
 symbols_in (Enum name v) = v
@@ -43,7 +47,7 @@ name_in Bytes = codes "bytes"
 name_in Text = codes "string"
 name_in (Array k) = codes "array"
 name_in (Map k) = codes "map"
-name_in (Union v) = codes "union"
+name_in (Union v names) = codes "union"
 name_in (Fixed name size) = name
 name_in (Enum name v) = name
 name_in (Record name v) = name

@@ -91,7 +91,7 @@ pub(crate) fn write_type(
             write_type(alloc, nodes, *values, text)?;
             push(text, "}")
         }
-        Form::Union(branches) => {
+        Form::Union(branches, _) => {
             push(text, "[")?;
             write_branches(alloc, nodes, branches, node, text)
         }

@@ -2,11 +2,11 @@ ghost use Rattle.std.specs.Prelude.{◌≡◌, ◌<◌, ℕ, List, length};
 ghost use Rattle.avro_schema.specs.Types.{AvroType, Branches, Fields, union, enum_, record_, branch_name};
 ghost use Rattle.avro_schema.specs.Nodes.{tree_of, Stands, HasNode, Resolves, StandForBranches, StandForFields, IsKindOf, IsOfKind};
 ghost use Rattle.avro_schema.specs.Forms.{IsSchema, IsFormOf};
-ghost use Rattle.avro_schema.specs.Distinct.{HasNames};
+ghost use Rattle.avro_schema.specs.Distinct.{HasNames, branch_names};
 ghost use Rattle.avro_names.specs.NameList.{place_of};
 
 use crate::parts::{Field, Form};
-use crate::pick::{branches_in, fields_in, kind_in, name_in, symbol_in, symbols_in};
+use crate::pick::{branch_in, branches_in, fields_in, kind_in, name_in, symbol_in, symbols_in};
 use crate::schema::{Kind, Schema};
 use avro_names::Definitions;
 use gate_io::Text;
@@ -55,6 +55,18 @@ impl Schema {
         ensures { (bs : Branches) → Resolves self.now node (union bs) → StandForBranches self.now result.now bs }
     {
         branches_in(form_of(&self.parts.nodes, &self.parts.definitions, node))
+    }
+
+    /// The place of a name among those of a union's branches, found by a map.
+    pub fn branch(&self, node: u32, name: &str) -> Option<usize>
+        requires { (bs : Branches) × Resolves self.now node (union bs) }
+        ensures { (bs : Branches) → Resolves self.now node (union bs)
+            → result ≡ place_of name.now (branch_names bs) }
+    {
+        branch_in(
+            form_of(&self.parts.nodes, &self.parts.definitions, node),
+            name,
+        )
     }
 
     /// The symbols of an enum in order.

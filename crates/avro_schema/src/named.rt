@@ -54,6 +54,10 @@ fn reference(name: Text, parts: &mut Parts) -> Result<u32, SchemaNo>
     let Ok(definition) = u32::try_from(found) else {
         return Err(SchemaNo::Want);
     };
+    let Some(room) = parts.room.checked_sub(name.as_bytes().len()) else {
+        return Err(SchemaNo::Want);
+    };
+    parts.room = room;
     parts.add(Form::Named(name, definition))
 }
 
@@ -99,10 +103,16 @@ pub(crate) fn define(
         → IfErr result (Why (defined_name canonical (names_of parts.old) enclosing.now ms)) }
 {
     match defined_name(alloc, tree, canonical, enclosing, node, &parts.definitions) {
-        Ok(name) => match parts.definitions.add(alloc, name.as_str()) {
-            Ok(definition) => Ok((name, definition)),
-            Err(e) => Err(e),
-        },
+        Ok(name) => {
+            let Some(room) = parts.room.checked_sub(name.as_bytes().len()) else {
+                return Err(SchemaNo::Want);
+            };
+            parts.room = room;
+            match parts.definitions.add(alloc, name.as_str()) {
+                Ok(definition) => Ok((name, definition)),
+                Err(e) => Err(e),
+            }
+        }
         Err(e) => Err(e),
     }
 }

@@ -24,7 +24,8 @@ pub(crate) enum Form {
     Text,
     Array(u32),
     Map(u32),
-    Union(Vec<u32>),
+    /// The branches' nodes, and their names.
+    Union(Vec<u32>, NameList),
     Fixed(Text, u32),
     Enum(Text, NameList),
     Record(Text, Vec<Field>),
@@ -37,7 +38,13 @@ pub(crate) struct Parts {
     pub(crate) nodes: Vec<Form>,
     pub(crate) definitions: Definitions,
     pub(crate) root: u32,
+    /// How many bytes of fullnames may still be kept.
+    pub(crate) room: usize,
 }
+
+/// How many bytes of fullnames are kept while a schema is read: more are want of memory. A canonical form that is short enough has
+/// at most 65,536, but those of a longer one grow with the square of the text where a long namespace is inherited.
+pub(crate) const NAME_ROOM: usize = 16_777_216;
 
 impl Parts {
     /// Makes a node.

@@ -1,7 +1,7 @@
 ghost use Rattle.std.specs.Prelude.{◌≡◌, true};
 ghost use Rattle.avro_schema.specs.Forms.{is_plain};
 ghost use Rattle.avro_names.specs.NameList.{place_of};
-ghost use Rattle.avro_schema.specs.Picks.{kind_in, branches_in, symbols_in, fields_in, name_in};
+ghost use Rattle.avro_schema.specs.Picks.{kind_in, branches_in, names_in, symbols_in, fields_in, name_in};
 
 use crate::parts::{Field, Form};
 use crate::schema::Kind;
@@ -21,7 +21,7 @@ pub(crate) fn kind_in(form: &Form) -> Kind
         Form::Text => Kind::Text,
         Form::Array(items) => Kind::Array(*items),
         Form::Map(values) => Kind::Map(*values),
-        Form::Union(_) => Kind::Union,
+        Form::Union(_, _) => Kind::Union,
         Form::Fixed(_, size) => Kind::Fixed(*size),
         Form::Enum(_, _) => Kind::Enum,
         Form::Record(_, _) => Kind::Record,
@@ -34,8 +34,18 @@ pub(crate) fn branches_in(form: &Form) -> &[u32]
     ensures { result.now ≡ branches_in form.now }
 {
     match form {
-        Form::Union(branches) => branches.as_slice(),
+        Form::Union(branches, _) => branches.as_slice(),
         _ => &[],
+    }
+}
+
+/// The first place of a name among those of a union's branches.
+pub(crate) fn branch_in(form: &Form, name: &str) -> Option<usize>
+    ensures { result ≡ place_of name.now (names_in form.now) }
+{
+    match form {
+        Form::Union(_, names) => names.find(name),
+        _ => None,
     }
 }
 
@@ -82,7 +92,7 @@ pub(crate) fn name_in(form: &Form) -> &str
         Form::Text => "string",
         Form::Array(_) => "array",
         Form::Map(_) => "map",
-        Form::Union(_) => "union",
+        Form::Union(_, _) => "union",
         Form::Fixed(name, _) => name.as_str(),
         Form::Enum(name, _) => name.as_str(),
         Form::Record(name, _) => name.as_str(),

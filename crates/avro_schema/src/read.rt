@@ -12,7 +12,7 @@ ghost use Rattle.avro_schema.specs.Forms.{type_at, types_of, EachBefore};
 ghost use Rattle.avro_schema.specs.Building.{Finished, Ends, FormReads};
 
 use crate::canonical::write_type;
-use crate::parts::{Form, Parts};
+use crate::parts::{Form, NAME_ROOM, Parts};
 use crate::reader::read_type;
 use crate::schema::Schema;
 use avro_names::{Definitions, SchemaNo};
@@ -58,6 +58,7 @@ fn read_value(alloc: Global, canonical: bool, tree: &Tree) -> Result<Schema, Sch
         nodes: Vec::new(alloc),
         definitions: Definitions::new(alloc),
         root: 0,
+        room: NAME_ROOM,
     };
     match read_type(
         alloc,
@@ -94,12 +95,14 @@ fn whole(parts: Parts, root: u32) -> Schema
         nodes,
         definitions,
         root: _,
+        room,
     } = parts;
     Schema {
         parts: Parts {
             nodes,
             definitions,
             root,
+            room,
         },
     }
 }
@@ -116,7 +119,8 @@ fn read_text(alloc: Global, canonical: bool, text: &str) -> Result<Schema, Schem
 }
 
 impl Schema {
-    /// Reads a schema (Apache Avro 1.11 specification, "Schema Declaration").
+    /// Reads a schema (Apache Avro 1.11 specification, "Schema Declaration"). Fullnames of more than 16,777,216 bytes together are want
+    /// of memory.
     pub fn read(alloc: Global, text: &str) -> Result<Schema, SchemaNo>
         // The text is a JSON text of a value that is this schema.
         ensures ok { IfOk result (λ s. ReadsAs false text.now (tree_of s)) }

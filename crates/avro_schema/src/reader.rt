@@ -3,9 +3,9 @@ ghost use Rattle.json_span.specs.Json.{Json, Members, Items, object, array};
 ghost use Rattle.json_span.specs.Nodes.{Stands, StandForItems, HasNode};
 ghost use Rattle.avro_schema.specs.Reading.{reader, object_read, object_by_word, record_read, part_type, fields_of, field_read, branch_read, union_read};
 ghost use Rattle.json_span.specs.Parts.{last_member, IsMember};
-ghost use Rattle.avro_schema.specs.Building.{names_of, IsBuilt, Tells, MakesField, MakesFields, MakesBranch, names_of_fields, names_of_branches, IsObject};
+ghost use Rattle.avro_schema.specs.Building.{names_of, IsBuilt, Tells, MakesField, MakesFields, MakesBranch, names_of_fields, IsObject};
 ghost use Rattle.avro_names.specs.Outcomes.{Why};
-ghost use Rattle.avro_schema.specs.Forms.{types_of};
+ghost use Rattle.avro_schema.specs.Forms.{types_of, names_of_branches};
 
 use crate::named::{add_branch, define, read_enum, read_fixed, type_by_name};
 use crate::parts::{Field, Form, Parts};
@@ -94,7 +94,7 @@ fn read_union(
             return Err(e);
         }
     }
-    parts.add(Form::Union(branches))
+    parts.add(Form::Union(branches, names))
 }
 
 /// One more branch, which isn't of the kind or the fullname of one before it.

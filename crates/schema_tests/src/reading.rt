@@ -351,16 +351,20 @@ fn reads_canonical_forms_of_65536_bytes_and_no_longer(rt: HostRuntime) -> Result
 
 /// Texts, and what is looked up of them: the name of the root, and the name, the kind and the parts of the node of its items,
 /// or else of the root.
-const PARTS: [(&str, &str); 4] = [
+const PARTS: [(&str, &str); 5] = [
     (
         r#"{"type":"record","name":"R","fields":[{"name":"a","type":"int"},{"name":"b","type":"R"}]}"#,
         "R R Record a b",
     ),
     (
         r#"{"type":"array","items":{"type":"enum","name":"E","symbols":["A","B"]}}"#,
-        "array E Enum 2",
+        "array E Enum 2 Some(1)",
     ),
-    (r#"["null","bytes","string"]"#, "union union Union 3"),
+    (
+        r#"["null","bytes","string"]"#,
+        "union union Union 3 Some(2)",
+    ),
+    (r#"["null","bytes"]"#, "union union Union 2 None"),
     (r#"{"type":"fixed","name":"F","size":7}"#, "F F Fixed(7)"),
 ];
 
@@ -374,19 +378,24 @@ fn field_names(alloc: Global, fields: &[Field]) -> Result<String, Fail> {
     Ok(text)
 }
 
-/// A count behind a blank.
-fn number(alloc: Global, count: usize) -> Result<String, Fail> {
-    Ok(format!(in alloc; " {count}")?)
+/// A count and a place, each behind a blank.
+fn count_and_place(alloc: Global, count: usize, place: Option<usize>) -> Result<String, Fail> {
+    Ok(format!(in alloc; " {count} {place:?}")?)
 }
 
-/// The parts of a node: a record's fields, and the number of an enum's symbols and of a union's branches.
+/// The parts of a node: a record's fields, the number of an enum's symbols and the place of `B` among them, and the number of a
+/// union's branches and the place of `string`.
 fn parts_of(alloc: Global, schema: &Schema, node: u32) -> Result<String, Fail>
     requires { HasNode schema.now node }
 {
     match schema.kind(node) {
         Kind::Record => field_names(alloc, schema.fields(node)),
-        Kind::Enum => number(alloc, schema.symbols(node).len()),
-        Kind::Union => number(alloc, schema.branches(node).len()),
+        Kind::Enum => count_and_place(alloc, schema.symbols(node).len(), schema.symbol(node, "B")),
+        Kind::Union => count_and_place(
+            alloc,
+            schema.branches(node).len(),
+            schema.branch(node, "string"),
+        ),
         _ => Ok(String::new(alloc)),
     }
 }

@@ -1,8 +1,9 @@
 use Rattle.std.proofs.Common.{◌≡◌, Ok, subst}
 use Rattle.avro_schema.specs.Nodes.{tree_of}
-use Rattle.avro_datum.specs.Value.{value_of, max_levels}
+use Rattle.avro_datum.specs.Data.{value_of}
+use Rattle.avro_value.specs.Value.{max_levels}
 use Rattle.avro_codec.specs.Reading.{Place, value_at}
-use Rattle.avro_datum.specs.Steps.{Fails}
+use Rattle.avro_value.specs.Steps.{Fails}
 use Rattle.avro_codec.proofs.DecodeLemmas.{datum_read, datum_stop, datum_more}
 use Rattle.avro_codec.proofs.decoder.read_all.Goals as goal
 

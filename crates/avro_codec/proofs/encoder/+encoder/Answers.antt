@@ -2,7 +2,7 @@ use Rattle.std.proofs.Common.{◌+◌, ◌-◌, length, drop, subst, arith}
 use Rattle.avro_schema.specs.Nodes.{Stands}
 use Rattle.avro_schema.specs.declared.parts.Field.{Field}
 use Rattle.avro_codec.proofs.EncodeLemmas.{items_stopped, items_ended, items_written, entries_stopped, entries_ended, entries_written, fields_stopped, fields_ended, fields_lacking}
-use Rattle.avro_datum.proofs.NodeLemmas.{rest_is, none_left, some_there}
+use Rattle.avro_value.proofs.NodeLemmas.{rest_is, none_left, some_there}
 use Rattle.avro_codec.proofs.encoder.+encoder.Goals as goal
 
 pub put_items-returns-in-Err-clause-verdict : goal.put_items-returns-in-Err-clause-verdict

@@ -1,5 +1,5 @@
 use Rattle.avro_schema.specs.Nodes.{tree_of}
-use Rattle.avro_datum.specs.Value.{value_of}
+use Rattle.avro_datum.specs.Data.{value_of}
 use Rattle.avro_codec.proofs.Whole.{written_spells, written_only, written_refusal}
 use Rattle.avro_codec.proofs.encoder.encode_into.Goals as goal
 

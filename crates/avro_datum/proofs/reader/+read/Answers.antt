@@ -2,15 +2,16 @@ use Rattle.std.proofs.Common.{◌+◌, ◌-◌, suc, ◌++◌, ◌∷◌, [], Li
 use Rattle.avro_schema.specs.Types as schema
 use Rattle.avro_schema.specs.Types.{AvroType, resolved}
 use Rattle.avro_schema.specs.Nodes.{IsOfKind, tree_of}
-use Rattle.avro_datum.specs.Value.{Value, Entry, item_of, value_of, values_of, entries_of}
-use Rattle.avro_datum.specs.Value as shapes
-use Rattle.avro_datum.specs.declared.json_pick.Part.{Part}
-use Rattle.avro_datum.specs.Parts.{AreParts}
-use Rattle.avro_datum.specs.Picks.{is_nesting}
-use Rattle.avro_datum.specs.Reading.{entries_at, entries_in, fields_at, fields_in, giving, items_at, items_in, value_at}
-use Rattle.avro_datum.proofs.NodeLemmas.{rest_is, none_left}
-use Rattle.avro_datum.proofs.PickLemmas.{resolves_is}
-use Rattle.avro_datum.proofs.PartLemmas.{next_is}
+use Rattle.avro_datum.specs.Data.{item_of, value_of}
+use Rattle.avro_value.specs.Value.{Value, Entry, values_of, entries_of}
+use Rattle.avro_value.specs.Value as shapes
+use Rattle.avro_value.specs.declared.json_pick.Part.{Part}
+use Rattle.avro_value.specs.Parts.{AreParts}
+use Rattle.avro_value.specs.Picks.{is_nesting}
+use Rattle.avro_value.specs.Reading.{entries_at, entries_in, fields_at, fields_in, giving, items_at, items_in, value_at}
+use Rattle.avro_value.proofs.NodeLemmas.{rest_is, none_left}
+use Rattle.avro_value.proofs.PickLemmas.{resolves_is}
+use Rattle.avro_value.proofs.PartLemmas.{next_is}
 use Rattle.avro_datum.proofs.ReadLemmas.{ItemsRead, EntriesRead, items_site, items_go, items_stop, items_done, entries_site, entries_go, entries_stop, entries_done, nests_is, node_deep, node_many, node_enters, giving_read, giving_stop, room_is, body_is, parts_read, parts_lack, reads_along}
 use Rattle.avro_datum.proofs.reader.+read.Goals as goal
 
@@ -148,7 +149,7 @@ read_body-read_branch-requires t c =
     let s = c.args.schema.now in
     let e = subst (λ kind. IsOfKind s c.args.place kind) c.in-Union.is c.requires.kind in
     let some = room_is c.args.levels (is_nesting c.args.kind) (ap is_nesting c.in-Union.is) c.requires.room in
-    let got = c.in-Ok-branch_in.ensures e.0 (c.branches.ensures e.0 e.1) c.requires.node.0 c.requires.node.1 in
+    let got = c.in-Ok-branch_in.ensures e.0 e.1 c.requires.node.0 c.requires.node.1 in
     (omega (arith, c.decreases), (got.0, got.2))
 
 pub read_value-returns-then-is_too_deep : goal.read_value-returns-then-is_too_deep

@@ -4,9 +4,9 @@ use Rattle.avro_schema.specs.Nodes.{tree_of}
 use Rattle.avro_schema.specs.Nodes as types
 use Rattle.json_span.specs.Json.{Items, Json, Members}
 use Rattle.json_span.specs.Nodes.{StandForItems, StandForMembers}
-use Rattle.avro_datum.specs.Value.{item_of, value_of}
-use Rattle.avro_datum.specs.Parts.{AreParts}
-use Rattle.avro_datum.specs.Reading.{entries_at, fields_at, items_at, value_at}
+use Rattle.avro_datum.specs.Data.{item_of, value_of}
+use Rattle.avro_value.specs.Parts.{AreParts}
+use Rattle.avro_value.specs.Reading.{entries_at, fields_at, items_at, value_at}
 use Rattle.avro_datum.proofs.ReadLemmas.{ItemsRead, EntriesRead, FieldsRead}
 use Rattle.avro_datum.proofs.reader.+read.Given as goal
 

@@ -1,11 +1,11 @@
 use Rattle.std.proofs.Common.{ℕ, List, suc, sym, subst, ap}
 use Rattle.avro_schema.specs.Types.{AvroType, enum_}
 use Rattle.avro_schema.specs.Nodes.{IsOfKind}
-use Rattle.avro_datum.specs.Value as shapes
-use Rattle.avro_datum.specs.Value.{value_of}
-use Rattle.avro_datum.specs.Reading.{Reads, body_at, symbol_at}
-use Rattle.avro_datum.specs.Reading as reading
-use Rattle.avro_datum.proofs.PickLemmas.{resolves_is}
+use Rattle.avro_value.specs.Value as shapes
+use Rattle.avro_datum.specs.Data.{value_of}
+use Rattle.avro_value.specs.Reading.{Reads, body_at, symbol_at}
+use Rattle.avro_value.specs.Reading as reading
+use Rattle.avro_value.proofs.PickLemmas.{resolves_is}
 use Rattle.avro_datum.proofs.ReadLemmas.{reads_along}
 use Rattle.avro_datum.proofs.reader.leaf.Goals as goal
 

@@ -1,8 +1,8 @@
 use Rattle.std.proofs.Common.{ℕ, suc, Result, Ok, sym, ap, ◌∙◌, inl, inr}
-use Rattle.avro_datum.specs.declared.error.AvroNo.{AvroNo}
-use Rattle.avro_datum.specs.Value as shapes
-use Rattle.avro_datum.specs.Reading as reading
-use Rattle.avro_datum.proofs.NodeLemmas.{symbol_value}
+use Rattle.avro_value.specs.declared.error.AvroNo.{AvroNo}
+use Rattle.avro_value.specs.Value as shapes
+use Rattle.avro_value.specs.Reading as reading
+use Rattle.avro_datum.proofs.DatumLemmas.{symbol_value}
 use Rattle.avro_datum.proofs.reader.read_symbol.Goals as goal
 
 pub returns-in-Ok : goal.returns-in-Ok

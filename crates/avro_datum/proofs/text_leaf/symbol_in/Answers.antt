@@ -1,7 +1,7 @@
 use Rattle.std.proofs.Common.{List, ℕ, slice_get, Some, sym, ap, ◌∙◌}
 use Rattle.avro_schema.specs.Types.{enum_}
 use Rattle.avro_datum.specs.Shown as shown
-use Rattle.avro_datum.proofs.PickLemmas.{resolves_is}
+use Rattle.avro_value.proofs.PickLemmas.{resolves_is}
 use Rattle.avro_datum.proofs.text_leaf.symbol_in.Goals as goal
 
 pub returns-in-Some : goal.returns-in-Some

@@ -6,12 +6,14 @@ use Rattle.avro_schema.specs.Nodes.{Stands, StandForFields, tree_of}
 use Rattle.avro_schema.specs.declared.parts.Field.{Field}
 use Rattle.avro_datum.specs.declared.datum.Datum.{Datum}
 use Rattle.avro_datum.specs.declared.datum.MapItem.{MapItem}
-use Rattle.avro_datum.specs.Value as shapes
-use Rattle.avro_datum.specs.Value.{value_of, item_of, values_of, entries_of}
-use Rattle.avro_datum.specs.Picks.{Picks}
+use Rattle.avro_value.specs.Value as shapes
+use Rattle.avro_datum.specs.Data.{value_of, item_of}
+use Rattle.avro_value.specs.Value.{values_of, entries_of}
+use Rattle.avro_value.specs.Picks.{Picks}
 use Rattle.avro_datum.specs.Shown.{shown, values_in}
-use Rattle.avro_datum.proofs.NodeLemmas.{rest_is, none_left, fields_value, items_value, entries_value}
-use Rattle.avro_datum.proofs.PartLemmas.{null_resolved}
+use Rattle.avro_datum.proofs.DatumLemmas.{fields_value, items_value, entries_value}
+use Rattle.avro_value.proofs.NodeLemmas.{rest_is, none_left}
+use Rattle.avro_value.proofs.PartLemmas.{null_resolved}
 use Rattle.avro_datum.proofs.ShownLemmas.{shows_along, shows_behind, shows_between, fails_between, null_labelled, named_labelled, items_end, entries_more, entries_fail, entries_end, fields_more, items_shown, entries_shown, fields_shown, fields_lacking, first_stands}
 use Rattle.avro_datum.proofs.TypedLemmas.{value_more, values_end, entry_more, entries_end as entries_typed, text_is}
 use Rattle.avro_datum.proofs.writer.+writer.Goals as goal

@@ -1,7 +1,8 @@
 use Rattle.std.proofs.Common.{◌+◌, drop, sym, ◌∙◌}
 use Rattle.avro_datum.proofs.KeyLemmas.{keys_more, keys_twice}
-use Rattle.avro_datum.proofs.PartLemmas.{not_true, not_false}
-use Rattle.avro_datum.proofs.NodeLemmas.{rest_is, key_is}
+use Rattle.avro_value.proofs.PartLemmas.{not_true, not_false}
+use Rattle.avro_datum.proofs.DatumLemmas.{key_is}
+use Rattle.avro_value.proofs.NodeLemmas.{rest_is}
 use Rattle.avro_datum.proofs.writer.keys_differ.Goals as goal
 
 pub returns-then-not-branch-clause-value : goal.returns-then-not-branch-clause-value

@@ -5,7 +5,7 @@ use Rattle.std.proofs.lemmas.Str.{IsUtf8-append, IsUtf8-string_bytes}
 use Rattle.json.specs.Token.{Token}
 use Rattle.json.specs.Print.{print}
 use Rattle.avro_schema.specs.Nodes.{tree_of}
-use Rattle.avro_datum.specs.Steps.{◌>>=◌}
+use Rattle.avro_value.specs.Steps.{◌>>=◌}
 use Rattle.avro_datum.specs.Shown.{Shown, tokens_of}
 use Rattle.avro_datum.proofs.writer.write_all.Goals as goal
 

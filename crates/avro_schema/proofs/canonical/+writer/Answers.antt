@@ -18,7 +18,7 @@ write_type-write_type-requires-in-Map t c =
 
 pub write_type-write_branches-requires : goal.write_type-write_branches-requires
 write_type-write_branches-requires t c =
-    let below = form_before c.args.nodes.now.items c.args.node c.index-form.result.now (Union c.in-Union.branches) c.requires.before c.requires.inside c.index-form.ensures c.in-Union.is in
+    let below = form_before c.args.nodes.now.items c.args.node c.index-form.result.now (Union c.in-Union.branches c.in-Union.field-1) c.requires.before c.requires.inside c.index-form.ensures c.in-Union.is in
     (omega (arith, c.decreases), (c.requires.before, (c.requires.inside, below)))
 
 pub write_type-write_fields-requires : goal.write_type-write_fields-requires
@@ -41,7 +41,7 @@ write_type-returns-in_ok-write_type-in-Map t c =
 pub write_type-returns-in_ok-push-in-Union : goal.write_type-returns-in_ok-push-in-Union
 write_type-returns-in_ok-push-in-Union t c =
     on_ok c.write_branches.result _ _ (λ e.
-    written c.args.nodes.now.items c.args.node c.index-form.result.now (Union c.in-Union.branches) c.requires.before c.requires.inside c.index-form.ensures c.in-Union.is c.args.text.now c.write_branches.new.text _ refl
+    written c.args.nodes.now.items c.args.node c.index-form.result.now (Union c.in-Union.branches c.in-Union.field-1) c.requires.before c.requires.inside c.index-form.ensures c.in-Union.is c.args.text.now c.write_branches.new.text _ refl
     (two c.args.text.now c.push-in-Union.new.text c.write_branches.new.text _ _ c.in_ok-push-in-Union.ensures e)) c.write_branches.ensures
 
 pub write_type-returns-in-Fixed : goal.write_type-returns-in-Fixed

@@ -24,4 +24,4 @@ returns-in-Ok-symbols_of c = λ ms h.
     let built = named_built _ c.args.parts.now q c.in-Ok.name c.in-Ok.definition c.requires.built n in
     let names = named_names _ c.args.parts.now q c.in-Ok.name c.in-Ok.definition n in
     let is = enum_is c.args.canonical c.args.parts.now c.args.namespace.now ms c.in-Ok.name c.in-Ok-symbols_of.symbols _ n.is (c.in-Ok-symbols_of.ensures.ok (last_member (codes "symbols") ms) (c.member.ensures.value ms h)) names in
-    closed_tells _ _ c.args.parts.now q q c.finish.new.self c.in-Ok.name c.in-Ok.definition [] (Enum c.in-Ok.name c.in-Ok-symbols_of.symbols) (enum_ c.in-Ok.name c.in-Ok-symbols_of.symbols) c.finish.result n (grows_refl q built) c.finish.ensures.ok c.finish.ensures.want tt (λ m e x. cc) refl refl is
+    closed_tells _ _ c.args.parts.now q q c.finish.new.self c.in-Ok.name c.in-Ok.definition [] (Enum c.in-Ok.name c.in-Ok-symbols_of.symbols) (enum_ c.in-Ok.name c.in-Ok-symbols_of.symbols) c.finish.result n (grows_refl q built) c.finish.ensures.ok c.finish.ensures.want tt tt (λ m e x. cc) refl refl is

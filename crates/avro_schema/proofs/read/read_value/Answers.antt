@@ -11,7 +11,7 @@ use Rattle.avro_schema.proofs.read.read_value.Goals as goal
 
 pub finish-requires : goal.finish-requires
 finish-requires c =
-    let p : Parts = record { nodes = c.new.result; definitions = c.new-2.result; root = 0 } in
+    let p : Parts = record { nodes = c.new.result; definitions = c.new-2.result; root = 0; room = 16777216 } in
     let P : ℕ → Type 0 = λ k. Stands c.args.tree.now k c.requires.0 in
     let m = c.in-Ok.ensures c.requires.0 (subst P (sym c.root.ensures) c.requires.1) in
     let none : names_of p ≡ [] = ap names_in c.new-2.ensures in
@@ -23,7 +23,7 @@ finish-requires c =
 
 pub returns-in-Ok : goal.returns-in-Ok
 returns-in-Ok c = λ j h.
-    let p : Parts = record { nodes = c.new.result; definitions = c.new-2.result; root = 0 } in
+    let p : Parts = record { nodes = c.new.result; definitions = c.new-2.result; root = 0; room = 16777216 } in
     let P : ℕ → Type 0 = λ k. Stands c.args.tree.now k j in
     let m = c.in-Ok.ensures j (subst P (sym c.root.ensures) h) in
     value_ok c.args.canonical j p c.read_type.new.parts c.in-Ok.root c.finish.result (ap names_in c.new-2.ensures) m
@@ -31,6 +31,6 @@ returns-in-Ok c = λ j h.
 
 pub returns-in-Err : goal.returns-in-Err
 returns-in-Err c = λ j h.
-    let p : Parts = record { nodes = c.new.result; definitions = c.new-2.result; root = 0 } in
+    let p : Parts = record { nodes = c.new.result; definitions = c.new-2.result; root = 0; room = 16777216 } in
     let P : ℕ → Type 0 = λ k. Stands c.args.tree.now k j in
     value_err c.args.canonical j p c.in-Err.e (ap names_in c.new-2.ensures) (c.in-Err.ensures j (subst P (sym c.root.ensures) h))

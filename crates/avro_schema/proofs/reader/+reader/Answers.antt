@@ -4,8 +4,8 @@ use Rattle.std.proofs.Math.ListN.{drop_of_length-le}
 use Rattle.avro_names.specs.Names.{namespace_of, are_parts}
 use Rattle.avro_schema.specs.Reading.{reader}
 use Rattle.json_span.specs.Parts.{last_member}
-use Rattle.avro_schema.specs.Building.{names_of, names_of_fields, names_of_branches, FieldsSoFar, BranchesSoFar}
-use Rattle.avro_schema.specs.Forms.{types_of}
+use Rattle.avro_schema.specs.Building.{names_of, names_of_fields, FieldsSoFar, BranchesSoFar}
+use Rattle.avro_schema.specs.Forms.{types_of, names_of_branches}
 use Rattle.avro_schema.specs.declared.parts.Form.TheVariants.{Union, Record}
 use Rattle.avro_schema.specs.declared.parts.Field.{Field}
 use Rattle.avro_schema.proofs.NamedLemmas.{tells_along}
@@ -204,7 +204,7 @@ read_record-returns-in-Ok-read_fields t c = λ ms h.
     let m = c.in-Ok-read_fields.ensures.ok (last_member (codes "fields") ms) (c.member.ensures.value ms h) in
     let inner : c.namespace_of-within.result.now ≡ namespace_of c.in-Ok.name = c.namespace_of-within.ensures ∙ ap namespace_of c.as_str.ensures in
     record_tells c.args.canonical (reader c.args.canonical c.args.levels) c.args.namespace.now ms c.args.parts.now c.define.new.parts c.in-Ok.name c.namespace_of-within.result.now c.in-Ok.definition n inner
-    c.read_fields.new.parts c.finish.new.self c.in-Ok-read_fields.fields.items (Record c.in-Ok.name c.in-Ok-read_fields.fields) c.finish.result m (λ k a. a) (λ x e y. cc) (λ ts. refl) c.finish.ensures.ok c.finish.ensures.want
+    c.read_fields.new.parts c.finish.new.self c.in-Ok-read_fields.fields.items (Record c.in-Ok.name c.in-Ok-read_fields.fields) c.finish.result m (λ k a. a) (λ ts. tt) (λ x e y. cc) (λ ts. refl) c.finish.ensures.ok c.finish.ensures.want
 
 pub read_record-returns-in-Err-read_fields : goal.read_record-returns-in-Err-read_fields
 read_record-returns-in-Err-read_fields t c = λ ms h.
@@ -279,5 +279,5 @@ read_union-loop-item-preserved t c = record {
 pub read_union-returns : goal.read_union-returns
 read_union-returns t c = λ js h.
     let left = drop_of_length-le c.items-item-items.result.now c.loop-item-test.false in
-    union_tells c.args.tree.now (reader c.args.canonical c.args.levels) c.args.namespace.now js c.args.parts.now c.loop-item.parts c.add.new.self _ c.loop-item.branches.items (Union c.loop-item.branches) c.add.result left
-    (c.loop-item.invariant.so_far js (c.items-item-items.ensures.value js h)) (λ n a. a) (λ m e x. cc) (λ ts. refl) c.add.ensures.ok c.add.ensures.want c.add.ensures.definitions
+    union_tells c.args.tree.now (reader c.args.canonical c.args.levels) c.args.namespace.now js c.args.parts.now c.loop-item.parts c.add.new.self _ c.loop-item.branches.items (Union c.loop-item.branches c.loop-item.names) c.add.result left
+    (c.loop-item.invariant.so_far js (c.items-item-items.ensures.value js h)) (λ n a. a) c.loop-item.invariant.names (λ m e x. cc) (λ ts. refl) c.add.ensures.ok c.add.ensures.want c.add.ensures.definitions

@@ -2,8 +2,8 @@ use Rattle.std.proofs.Common.{◌≡◌, ◌+◌, ◌*◌, drop}
 use Rattle.json_span.specs.Json.{Items}
 use Rattle.json_span.specs.Nodes.{StandForItems}
 use Rattle.avro_schema.specs.Reading.{reader}
-use Rattle.avro_schema.specs.Building.{FieldsSoFar, BranchesSoFar, names_of_fields, names_of_branches}
-use Rattle.avro_schema.specs.Forms.{types_of}
+use Rattle.avro_schema.specs.Building.{FieldsSoFar, BranchesSoFar, names_of_fields}
+use Rattle.avro_schema.specs.Forms.{types_of, names_of_branches}
 use Rattle.avro_schema.proofs.reader.+reader.Given as goal
 
 abbrev pub decreases-read_type : goal.decreases-read_type

@@ -4,14 +4,15 @@ use Rattle.std.proofs.lemmas.Int.{to_z-of_z}
 use Rattle.avro_schema.specs.Types as schema
 use Rattle.avro_schema.specs.Types.{AvroType, resolved}
 use Rattle.avro_schema.specs.Nodes.{IsOfKind, tree_of}
-use Rattle.avro_datum.specs.Value.{Value, Entry, item_of, value_of, values_of, entries_of}
-use Rattle.avro_datum.specs.Value as shapes
-use Rattle.avro_datum.specs.Picks.{is_nesting}
+use Rattle.avro_datum.specs.Data.{item_of, value_of}
+use Rattle.avro_value.specs.Value.{Value, Entry, values_of, entries_of}
+use Rattle.avro_value.specs.Value as shapes
+use Rattle.avro_value.specs.Picks.{is_nesting}
 use Rattle.avro_codec.specs.Reading.{all_blocks, weighs, union_at, entry_at, fields_at, many, value_at, with_front}
-use Rattle.avro_datum.proofs.NodeLemmas.{rest_is, none_left}
-use Rattle.avro_datum.proofs.PickLemmas.{resolves_is}
+use Rattle.avro_value.proofs.NodeLemmas.{rest_is, none_left}
+use Rattle.avro_value.proofs.PickLemmas.{resolves_is}
 use Rattle.avro_codec.proofs.DecodeLemmas.{many_go, many_stop, many_done, blocks_go, blocks_unlike, blocks_stop, blocks_headless, blocks_done, fields_go, fields_stop, fields_done, entry_read, entry_keyless, entry_stop, union_at_branch, union_lacks, picked_read, picked_stop, nests_is, node_enters, node_stops, room_is, body_is, giving_read, giving_stop, fields_site, branch_site, branch_made, place_is, FieldsRead, reads_along}
-use Rattle.avro_datum.proofs.NodeLemmas.{fails_along}
+use Rattle.avro_value.proofs.NodeLemmas.{fails_along}
 use Rattle.avro_codec.proofs.cursor.Cursor.+decoder.Goals as goal
 
 pub more_items-loop-left-preserved : goal.more_items-loop-left-preserved

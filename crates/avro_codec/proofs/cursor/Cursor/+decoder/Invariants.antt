@@ -1,7 +1,7 @@
 use Rattle.std.proofs.Common.{◌≡◌, ◌≤◌, ◌+◌, ◌*◌, map, length, drop}
 use Rattle.avro_schema.specs.Types.{AvroType, Fields}
 use Rattle.avro_schema.specs.Nodes.{Stands, StandForFields, tree_of}
-use Rattle.avro_datum.specs.Value.{item_of, value_of}
+use Rattle.avro_datum.specs.Data.{item_of, value_of}
 use Rattle.avro_codec.specs.Reading.{all_blocks, entry_at, fields_at, many, value_at, with_front}
 use Rattle.avro_codec.proofs.DecodeLemmas.{BlocksRead, FieldsRead}
 use Rattle.avro_codec.proofs.cursor.Cursor.+decoder.Given as goal

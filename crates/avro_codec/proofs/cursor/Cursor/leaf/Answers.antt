@@ -1,9 +1,9 @@
 use Rattle.std.proofs.Common.{length, subst, List, ℕ}
 use Rattle.avro_schema.specs.Types.{enum_}
 use Rattle.avro_schema.specs.Nodes.{IsOfKind}
-use Rattle.avro_datum.specs.Value.{value_of}
+use Rattle.avro_datum.specs.Data.{value_of}
 use Rattle.avro_codec.specs.Reading.{Reads, enum_at}
-use Rattle.avro_datum.proofs.PickLemmas.{resolves_is}
+use Rattle.avro_value.proofs.PickLemmas.{resolves_is}
 use Rattle.avro_codec.proofs.cursor.Cursor.leaf.Goals as goal
 
 pub returns-in-Enum-clause-value : goal.returns-in-Enum-clause-value

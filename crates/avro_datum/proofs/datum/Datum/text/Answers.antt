@@ -1,6 +1,6 @@
 use Rattle.std.specs.Prelude.{string_bytes}
 use Rattle.avro_schema.specs.Nodes.{tree_of}
-use Rattle.avro_datum.specs.Value.{value_of}
+use Rattle.avro_datum.specs.Data.{value_of}
 use Rattle.avro_datum.proofs.JsonWhole.{text_all_again, text_alone, text_only}
 use Rattle.avro_datum.proofs.datum.Datum.text.Goals as goal
 
