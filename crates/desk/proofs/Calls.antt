@@ -23,7 +23,7 @@ use Rattle.model.proofs.Moves.{same_from_is_key}
 use Rattle.std.proofs.lemmas.Slice.Eq.{bytes_eq-Decides}
 use Rattle.broker_link.specs.Causes.{Counts}
 use Rattle.instance.specs.Views.{Live}
-use Rattle.instance.specs.Acting.{ActsSo, AreThere, forms}
+use Rattle.consumer_state.specs.Acting.{ActsSo, AreThere, forms}
 use Rattle.rest_calls.specs.Views.{key_in}
 use Rattle.desk.specs.Keys.{consumer_key, group_in, name_in_call}
 use Rattle.desk.specs.Consumers.{Groups, live_under, consumer_under, AreKeyed, Puts}

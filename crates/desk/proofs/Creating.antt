@@ -17,9 +17,9 @@ use Rattle.rest_codes.specs.declared.response.Reply.{Reply as CodeReply}
 use Rattle.rest_codes.specs.declared.response.Reply.TheVariants as reply
 use Rattle.instance.specs.declared.event.Event.{Event as CodeEvent}
 use Rattle.instance.specs.Views.{Live, event_of}
-use Rattle.instance.specs.Acting.{forms}
-use Rattle.instance.specs.Making.{SaysMade}
-use Rattle.instance.specs.Failing.{SaysOrWant}
+use Rattle.consumer_state.specs.Acting.{forms}
+use Rattle.consumer_state.specs.Making.{SaysMade}
+use Rattle.consumer_state.specs.Failing.{SaysOrWant}
 use Rattle.broker_link.specs.Stands.{Stand}
 use Rattle.model.specs.Entry.{Event}
 use Rattle.model.specs.Texts.{Response}

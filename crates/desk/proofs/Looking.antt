@@ -13,7 +13,7 @@ use Rattle.model.specs.Texts.{Response, response_of}
 use Rattle.model.proofs.Stretches.{run_after}
 use Rattle.broker_link.specs.Causes.{Counts}
 use Rattle.broker_link.specs.Replies.{CountsKept, IsCounted, IsCountedIf, IsGoodIf}
-use Rattle.instance.specs.Acting.{shown}
+use Rattle.consumer_state.specs.Acting.{shown}
 use Rattle.desk.specs.Stepping.{AreLow}
 use Rattle.desk.specs.Clocked.{IsClocked, after_turn, behind}
 use Rattle.desk.specs.Runs.{State, Pays, Runs, IsTurn, IsAnswered}

@@ -21,7 +21,7 @@ use Rattle.producer.specs.Replies.{reply_of}
 use Rattle.producer.specs.declared.told.Told.{Told}
 use Rattle.producer.specs.declared.request.ProduceNo.{ProduceNo}
 use Rattle.instance.specs.Views.{event_of}
-use Rattle.instance.specs.Acting.{forms}
+use Rattle.consumer_state.specs.Acting.{forms}
 use Rattle.desk.specs.Shelf.{world_in, AreSound}
 use Rattle.broker_link.specs.Stands.{Goes, Stand}
 use Rattle.desk.specs.Stepping.{StepsSo, never, noted}

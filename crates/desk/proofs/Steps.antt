@@ -23,10 +23,11 @@ use Rattle.model.specs.Noted.{IsTable, events_of, said_of}
 use Rattle.broker_link.specs.Causes.{Counts}
 use Rattle.broker_link.specs.Replies.{IsCountedIf}
 use Rattle.rest_calls.specs.Responses.{response_in}
-use Rattle.instance.specs.Views.{event_of, place_of}
+use Rattle.consumer_state.specs.Views.{place_of}
+use Rattle.instance.specs.Views.{event_of}
 use Rattle.instance.specs.declared.event.Event.{Event as CodeEvent}
 use Rattle.instance.specs.declared.event.Event.TheVariants as code
-use Rattle.instance.specs.Acting.{AreThere, forms, shown, shows, totals}
+use Rattle.consumer_state.specs.Acting.{AreThere, forms, shown, shows, totals}
 use Rattle.desk.specs.Shelf.{consumer_in, world_in, AreSound, AllThere}
 use Rattle.desk.specs.Calling.{CallsSo, OthersStay}
 use Rattle.desk.specs.declared.consumers.Consumers.{Consumers}

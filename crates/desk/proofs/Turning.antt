@@ -18,7 +18,7 @@ use Rattle.model.specs.Walk.{Walked}
 use Rattle.model.specs.Step.{ProduceEnds, Step, Does, Whole, Starved, left}
 use Rattle.model.specs.Legal.{Tally, no_tally, plus, entry_tally, call_tally, one_if, is_fault, is_refusal}
 use Rattle.model.specs.Causes.{IsCaused}
-use Rattle.instance.specs.Acting.{shown, totals}
+use Rattle.consumer_state.specs.Acting.{shown, totals}
 use Rattle.model.specs.Served.{EndsIn}
 use Rattle.model.specs.Noted.{IsTable, Noted, round_of, said_of}
 use Rattle.broker_link.specs.Causes.{Counts}

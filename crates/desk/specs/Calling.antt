@@ -13,7 +13,7 @@ use Rattle.model.specs.Noted.{IsTable, events_of, said_of}
 use Rattle.broker_link.specs.Causes.{Counts}
 use Rattle.broker_link.specs.Replies.{IsCountedIf, IsGoodIf}
 use Rattle.broker_link.specs.Stands.{Stand}
-use Rattle.instance.specs.Acting.{ActsSo, AreThere, forms, shown}
+use Rattle.consumer_state.specs.Acting.{ActsSo, AreThere, forms, shown}
 use Rattle.instance.specs.Views.{events_in, said_in}
 use Rattle.instance.specs.declared.event.Outcome.{Outcome}
 use Rattle.desk.specs.Shelf.{consumer_in}

@@ -6,13 +6,12 @@ use Rattle.model.specs.World.Mode.{ByTopics}
 use Rattle.model.specs.Entry.{Act, Call, Event}
 use Rattle.model.specs.Entry.Call.{Of}
 use Rattle.model.specs.Texts.{Response}
-use Rattle.model.specs.Fixed.{SameCommits}
 use Rattle.model.specs.Noted.{EndsInLook}
 use Rattle.broker_link.specs.Causes.{Counts}
-use Rattle.broker_link.specs.Stands.{Goes, Stand}
+use Rattle.broker_link.specs.Stands.{Stand}
 use Rattle.instance.specs.Views.{Live, events_in, said_in}
 use Rattle.instance.specs.declared.event.Outcome.{Outcome}
-use Rattle.instance.specs.Acting.{ActsSo}
+use Rattle.consumer_state.specs.Acting.{ActsSo}
 
 -- the instance that stood there did its call, and is put there again
 pub record Does (found : Option Live) (PutsBack : Option Live → Type 0) (call : Call) (now round : ℕ) (tells plain : Type 0) (before after : Counts) (a : Log) (events : List (Key ⊎ Event)) (said : Option Response) (b : Log) : Type 0 where
@@ -38,8 +37,3 @@ IsAsked found call = (live : Live) → found ≡ Some live → (act : Act) × (c
 pub record Waits (round : ℕ) (outcome : Outcome) : Type 0 where
   pub soon : outcome.reply ≡ None → 10 * round < 2 ^ 32
   pub looks : outcome.reply ≡ None → EndsInLook (events_in outcome) round
-
--- the link went on, and nothing was committed on it
-pub record Consults (a b : Stand) : Type 0 where
-  pub goes : Goes a b
-  pub commits : a.tells → SameCommits a.log b.log

@@ -13,7 +13,7 @@ use Rattle.producer.specs.Grouped.{placed_of}
 use Rattle.producer.specs.Replies.{refusal_reply}
 use Rattle.producer.specs.declared.told.Told.{Told}
 use Rattle.producer.specs.declared.request.ProduceNo.{ProduceNo}
-use Rattle.instance.specs.Failing.{SaysOrWant}
+use Rattle.consumer_state.specs.Failing.{SaysOrWant}
 
 -- a batch without schemas
 abbrev pub plain_batch : List Given → Batch

@@ -17,7 +17,7 @@ use Rattle.broker_link.specs.Replies.{CountsKept, IsCounted, IsCountedIf, IsGood
 use Rattle.rest_calls.specs.Views.{counted, given_name, is_unnamed, key_in}
 use Rattle.rest_codes.specs.declared.response.Reply.{Reply as CodeReply}
 use Rattle.rest_codes.specs.declared.response.Reply.TheVariants as reply
-use Rattle.instance.specs.Acting.{shown}
+use Rattle.consumer_state.specs.Acting.{shown}
 use Rattle.desk.specs.Shelf.{AllThere, world_in}
 use Rattle.desk.specs.Stepping.{AreLow, StepsSo, never}
 use Rattle.desk.specs.Clocked.{IsClocked, behind}

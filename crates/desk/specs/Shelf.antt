@@ -7,7 +7,7 @@ use Rattle.rest_codes.specs.declared.response.Reply.TheVariants as reply
 use Rattle.std.specs.Prelude.{ℕ, Bool, true, false, ◌≡◌, Option, Some}
 use Rattle.model.specs.Log.{Log}
 use Rattle.model.specs.World.{Key, Consumer, World, IsConsumer}
-use Rattle.instance.specs.Acting.{AreThere}
+use Rattle.consumer_state.specs.Acting.{AreThere}
 use Rattle.desk.specs.Consumers.{consumer_under}
 use Rattle.desk.specs.declared.consumers.Consumers.{Consumers}
 

@@ -15,7 +15,7 @@ use Rattle.rest_calls.specs.Views.{asked_of}
 use Rattle.rest_calls.specs.declared.call.Call.{Call as CodeCall}
 use Rattle.std.specs.declared.snapshot.Snapshot.{Snapshot}
 use Rattle.instance.specs.Views.{event_of}
-use Rattle.instance.specs.Acting.{forms, shown, totals}
+use Rattle.consumer_state.specs.Acting.{forms, shown, totals}
 use Rattle.desk.specs.Shelf.{AllThere}
 use Rattle.desk.specs.declared.entry.Entry.{Entry as CodeEntry}
 

@@ -3,11 +3,11 @@ ghost use Rattle.model.specs.Entry.{is_zero};
 ghost use Rattle.model.specs.Texts.{placed_text, joined, is_retriable};
 ghost use Rattle.producer.specs.Grouped.{placed_of};
 ghost use Rattle.producer.specs.Replies.{refusal_reply};
-ghost use Rattle.instance.specs.Failing.{SaysOrWant};
+ghost use Rattle.consumer_state.specs.Failing.{SaysOrWant};
 ghost use Rattle.desk.specs.Offsets.{SaysAnswer, SaysProduced, offsets_text, stored_text, code_text, failed_text};
 
+use consumer_state::{link_failure, refused};
 use gate_io::{Items, Text};
-use instance::{link_failure, refused};
 use producer::{ProduceNo, Told};
 use rest_codes::{Media, Reply};
 use std::alloc::{AllocError, Global};

@@ -6,11 +6,12 @@ ghost use Rattle.model.specs.Entry.Call.{Of, Produce};
 ghost use Rattle.model.specs.Noted.{EndsInLook};
 ghost use Rattle.rest_calls.specs.Responses.{response_in};
 ghost use Rattle.rest_calls.specs.Views.{asked_of, batch_of, is_unnamed, NamesPartition};
+ghost use Rattle.instance.specs.Passing.{Consults};
 ghost use Rattle.instance.specs.Views.{events_in, said_in};
 ghost use Rattle.desk.specs.Keys.{consumer_key};
 ghost use Rattle.desk.specs.Shelf.{consumer_in, is_create_call, world_in};
 ghost use Rattle.desk.specs.Calling.{CallsAt, CallsFirst, OthersKept, SameSetup};
-ghost use Rattle.desk.specs.Doing.{Consults, Waits};
+ghost use Rattle.desk.specs.Doing.{Waits};
 ghost use Rattle.desk.specs.Runs.{ShardSteps};
 ghost use Rattle.desk.specs.Stepping.{IsEntry, noted};
 
@@ -19,8 +20,9 @@ use crate::consumers::Consumers;
 use crate::offsets::reply_to;
 use crate::shelf::{group_of, has_deleted, is_create, name_of, settings_in};
 use broker_link::Link;
+use consumer_state::{made, refused};
 use gate_io::{Items, Text, Want};
-use instance::{Instance, Outcome, made, refused};
+use instance::{Instance, Outcome};
 use producer::produce;
 use rest_calls::{Batch, Call, Settings};
 use rest_codes::Reply;
@@ -179,6 +181,7 @@ impl<L: Link + Drop> Shard<L> {
         ensures entry { IsEntry caller (max now self.old.last) (asked_of call.now) round result }
         ensures waits { result.reply ≡ None → 10 * round < 2 ^ 32 }
         ensures looks { result.reply ≡ None → EndsInLook (noted result).events round }
+        ensures asked { (L.stand self.new.link).produces ≡ (L.stand self.old.link).produces }
 
         ensures advertise { self.new.advertise ≡ self.old.advertise }
         ensures first { self.new.first ≡ self.old.first }

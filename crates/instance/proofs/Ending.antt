@@ -12,7 +12,7 @@ use Rattle.model.specs.Look.{IsReady, moved}
 use Rattle.broker_link.specs.Causes.{Counts}
 use Rattle.broker_link.specs.Replies.{CountsKept, IsCounted}
 use Rattle.model.proofs.Walks.{is_then}
-use Rattle.instance.specs.Acting.{forms}
+use Rattle.consumer_state.specs.Acting.{forms}
 use Rattle.instance.specs.Ending.{IsEnded}
 use Rattle.instance.specs.Lots.{is_enough, rule_of}
 

@@ -17,10 +17,10 @@ use Rattle.model.proofs.Stretches.{keeps_itself}
 use Rattle.broker_link.specs.Fetching.{ask_at, row_of, AreAsks, AreGot, IsFetched, IsGot, HaveAsked}
 use Rattle.broker_link.specs.declared.fetch.FetchFrom.{FetchFrom}
 use Rattle.broker_link.specs.declared.fetch.Fetched.{Fetched}
-use Rattle.instance.specs.declared.place.Place.{Place as CodePlace}
+use Rattle.consumer_state.specs.declared.place.Place.{Place as CodePlace}
 use Rattle.instance.specs.Gathering.{asked, GotFrom, HaveAll, IsGotAt, IsHand, IsInside}
 use Rattle.instance.specs.Lots.{HasOffsets, lot_of, lots_of}
-use Rattle.instance.specs.Views.{place_of}
+use Rattle.consumer_state.specs.Views.{place_of}
 
 pub if_ok : {T E : Type 0} (r : Result T E) (P Q : T → Type 0) → ((x : T) → P x → Q x) → IfOk r P → IfOk r Q
 if_ok (Ok x) P Q f h = f x h

@@ -25,10 +25,10 @@ use Rattle.rest_codes.specs.declared.response.Reply.{Reply as CodeReply}
 use Rattle.instance.specs.declared.event.Event.{Event as CodeEvent}
 use Rattle.instance.specs.declared.event.Event.TheVariants.{Looked as CodeLooked}
 use Rattle.instance.specs.declared.event.Outcome.{Outcome}
-use Rattle.instance.specs.declared.place.Place.{Place as CodePlace}
-use Rattle.instance.specs.Acting.{forms}
+use Rattle.consumer_state.specs.declared.place.Place.{Place as CodePlace}
+use Rattle.consumer_state.specs.Acting.{forms}
 use Rattle.instance.specs.Ending.{IsEnded, IsOver, own_of, turn_of}
-use Rattle.instance.specs.Failing.{SaysOrWant}
+use Rattle.consumer_state.specs.Failing.{SaysOrWant}
 use Rattle.instance.specs.Gathering.{AreGiven, SetsBack}
 use Rattle.instance.specs.Handed.{IsHanded, LooksAtGiven}
 use Rattle.instance.specs.Lots.{lots_of, rule_of}

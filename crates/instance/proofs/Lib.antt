@@ -1,12 +1,4 @@
-pub mod Failing
-pub mod Linking
-pub mod Lacking
-pub mod Sorting
-pub mod Knowing
-pub mod Fixing
-pub mod Assigning
 pub mod Wanting
-pub mod Texts
 pub mod Turning
 pub mod Telling
 pub mod Walking

@@ -29,7 +29,7 @@ use Rattle.broker_link.specs.declared.link.LinkNo.{LinkNo}
 use Rattle.broker_link.specs.declared.link.LinkNo.TheVariants.{Fault, Refused, Want}
 use Rattle.instance.specs.declared.event.Event.{Event as CodeEvent}
 use Rattle.instance.specs.declared.event.Event.TheVariants.{Reset as CodeReset, Looked as CodeLooked}
-use Rattle.instance.specs.Acting.{ActsSo, AreThere, forms, totals}
+use Rattle.consumer_state.specs.Acting.{ActsSo, AreThere, forms, totals}
 use Rattle.instance.specs.Ending.{IsEnded, IsOver, own_of, turn_of}
 use Rattle.instance.specs.Gathering.{IsHand, SetsBack}
 use Rattle.instance.specs.Lots.{rule_of}
@@ -37,10 +37,11 @@ use Rattle.instance.specs.Passing.{Passes}
 use Rattle.rest_calls.specs.Views.{settings_of}
 use Rattle.rest_calls.specs.Responses.{response_in}
 use Rattle.rest_codes.specs.declared.response.Reply.{Reply as CodeReply}
-use Rattle.instance.specs.declared.consumer.Consumer.{Consumer as CodeConsumer}
+use Rattle.consumer_state.specs.declared.consumer.Consumer.{Consumer as CodeConsumer}
 use Rattle.instance.specs.declared.event.Outcome.{Outcome}
-use Rattle.instance.specs.Failing.{SaysOrWant}
-use Rattle.instance.specs.Views.{consumer_of, event_of, events_in, mode_of, place_of, said_in}
+use Rattle.consumer_state.specs.Failing.{SaysOrWant}
+use Rattle.consumer_state.specs.Views.{consumer_of, mode_of, place_of}
+use Rattle.instance.specs.Views.{event_of, events_in, said_in}
 use Rattle.instance.proofs.Gathering.{at_hand}
 use Rattle.instance.proofs.Moving.{ats_moved}
 use Rattle.instance.proofs.Setting.{ats_set_all, have_set}

@@ -13,9 +13,9 @@ use Rattle.model.proofs.Moves.{apart_from_order}
 use Rattle.broker_link.specs.Fetching.{row_of}
 use Rattle.broker_link.specs.declared.link.Stored.{Stored}
 use Rattle.broker_link.specs.declared.fetch.Fetched.{Fetched}
-use Rattle.instance.specs.declared.place.Place.{Place as CodePlace}
+use Rattle.consumer_state.specs.declared.place.Place.{Place as CodePlace}
 use Rattle.instance.specs.declared.walk.Pick.{Pick}
-use Rattle.instance.specs.Views.{at_in, place_of, mode_of}
+use Rattle.consumer_state.specs.Views.{at_in, place_of, mode_of}
 use Rattle.instance.specs.Lots.{lots_of, item_in, IsPick, stored_in, put_at}
 use Rattle.instance.proofs.Picking.{item_is, pick_within}
 

@@ -20,6 +20,7 @@ passes_on {x} {y} {z} h k = record {
   plainly = λ p. k.plainly (h.plainly p);
   turning = λ t. k.turning (h.turning t);
   alone = λ p. k.alone (h.plainly p) ∙ h.alone p;
+  asked = k.asked ∙ h.asked;
   counts = kept x.counts y.counts z.counts h.counts k.counts;
 }
   where

@@ -11,11 +11,11 @@ use Rattle.model.specs.Bodies.{array, joined, item_text}
 use Rattle.broker_link.specs.Fetching.{row_of}
 use Rattle.broker_link.specs.declared.link.Stored.{Stored}
 use Rattle.broker_link.specs.declared.fetch.Fetched.{Fetched}
-use Rattle.instance.specs.declared.place.Place.{Place as CodePlace}
+use Rattle.consumer_state.specs.declared.place.Place.{Place as CodePlace}
 use Rattle.instance.specs.declared.walk.Pick.{Pick}
-use Rattle.instance.specs.Acting.{forms}
+use Rattle.consumer_state.specs.Acting.{forms}
 use Rattle.instance.specs.Items.{bytes_text, front_text, place_text, quoted_topics}
-use Rattle.instance.specs.Views.{at_in}
+use Rattle.consumer_state.specs.Views.{at_in}
 use Rattle.instance.specs.Lots.{lot_of, lots_of, lot_at, item_in, IsPick, HasRow, HasOffsets, IsOffset, stored_in}
 use Rattle.std.specs.List.{All}
 

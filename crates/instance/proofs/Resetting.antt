@@ -10,11 +10,11 @@ use Rattle.model.specs.Entry.Event.{Reset}
 use Rattle.model.specs.Fixed.{Edges, HasPart, edge_of}
 use Rattle.model.proofs.Stretches.{keeps_itself, keeps_on}
 use Rattle.broker_link.specs.declared.fetch.Fetched.{Fetched}
-use Rattle.instance.specs.declared.place.Place.{Place as CodePlace}
+use Rattle.consumer_state.specs.declared.place.Place.{Place as CodePlace}
 use Rattle.instance.specs.declared.event.Event.{Event as CodeEvent}
 use Rattle.instance.specs.Ending.{own_of}
 use Rattle.instance.specs.Gathering.{AreTold, EdgesTold, IsEdgeIf, news_of, put_all, put_maybe}
-use Rattle.instance.specs.Views.{place_of}
+use Rattle.consumer_state.specs.Views.{place_of}
 
 news_push : (ps : List Place) (os : List (Option ℤ)) (p : Place) (o : Option ℤ) → length os ≡ length ps → news_of (ps ++ p ∷ []) (os ++ o ∷ []) ≡ news_of ps os ++ news_of (p ∷ []) (o ∷ [])
 news_push [] [] p o same = refl

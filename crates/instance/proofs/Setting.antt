@@ -20,7 +20,7 @@ use Rattle.instance.specs.Gathering.{AreSet, AreTold, EdgesTold, GotFrom, HaveAl
 use Rattle.instance.proofs.Gathering.{before_is_other}
 use Rattle.instance.proofs.Resetting.{told_on}
 use Rattle.instance.proofs.Moving.{order_kept}
-use Rattle.instance.proofs.Fixing.{has_part_later}
+use Rattle.consumer_state.proofs.Fixing.{has_part_later}
 
 abbrev Apart : List Place → Type 0
 Apart ps = AllPairs (λ (p q : Place). is_at p.at q.at ≡ false) ps

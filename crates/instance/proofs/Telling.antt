@@ -21,13 +21,14 @@ use Rattle.rest_codes.specs.declared.response.Reply.{Reply as CodeReply}
 use Rattle.broker_link.specs.Causes.{Counts}
 use Rattle.broker_link.specs.declared.fetch.TopicPart.{TopicPart as Part}
 use Rattle.broker_link.specs.Replies.{IsGood}
-use Rattle.instance.specs.Acting.{ActsSo, forms, totals}
-use Rattle.instance.specs.Failing.{Says, SaysOrWant}
+use Rattle.consumer_state.specs.Acting.{ActsSo, forms, totals}
+use Rattle.consumer_state.specs.Failing.{Says, SaysOrWant}
 use Rattle.instance.specs.Telling.{TellsSo}
-use Rattle.instance.specs.Views.{Live as Seen, at_in, consumer_of}
-use Rattle.instance.specs.declared.consumer.Consumer.{Consumer as Kept}
-use Rattle.instance.proofs.Fixing.{ats_are}
-use Rattle.instance.proofs.Linking.{counted_done, counts_stay}
+use Rattle.consumer_state.specs.Views.{at_in, consumer_of}
+use Rattle.instance.specs.Views.{Live as Seen}
+use Rattle.consumer_state.specs.declared.consumer.Consumer.{Consumer as Kept}
+use Rattle.consumer_state.proofs.Fixing.{ats_are}
+use Rattle.consumer_state.proofs.Linking.{counted_done, counts_stay}
 use Rattle.instance.proofs.Wanting.{mode_is, not_due, same, unpumped, wanting}
 
 quiet : (advertise : List ℕ) (call : Call) (key : Key) (now round : ℕ) (act : Act) → asked_of call ≡ Of key act → (tells plain : Type 0) (counts : Counts) (c : Consumer) (a : Log) (answer : Reply) (r : CodeReply)

@@ -11,10 +11,10 @@ use Rattle.model.proofs.Walks.{is_then, is_else, walk-on, walk-stopped}
 use Rattle.broker_link.specs.Fetching.{row_of}
 use Rattle.broker_link.specs.declared.link.Stored.{Stored}
 use Rattle.broker_link.specs.declared.fetch.Fetched.{Fetched}
-use Rattle.instance.specs.declared.place.Place.{Place as CodePlace}
+use Rattle.consumer_state.specs.declared.place.Place.{Place as CodePlace}
 use Rattle.instance.specs.declared.walk.Pick.{Pick}
 use Rattle.instance.specs.declared.walk.Walk.{Walk}
-use Rattle.instance.specs.Acting.{forms}
+use Rattle.consumer_state.specs.Acting.{forms}
 use Rattle.instance.specs.Lots.{lot_of, lots_of, lot_at, item_in, seen, rule_of}
 
 pub length-lots_of : (places : List CodePlace) (fetched : List Fetched) → length fetched ≡ length places → length (lots_of places fetched) ≡ length places

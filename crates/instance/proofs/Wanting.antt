@@ -21,9 +21,10 @@ use Rattle.rest_calls.specs.declared.call.Call.{Call}
 use Rattle.rest_calls.specs.declared.call.Call.TheVariants as call
 use Rattle.broker_link.specs.Causes.{Counts}
 use Rattle.model.specs.Texts.Response.{Wanting}
-use Rattle.instance.specs.Acting.{ActsSo, forms, totals}
-use Rattle.instance.specs.Views.{place_of, mode_of, consumer_of, Live as Seen, event_of}
-use Rattle.instance.specs.declared.consumer.Consumer.{Consumer as Kept}
+use Rattle.consumer_state.specs.Acting.{ActsSo, forms, totals}
+use Rattle.consumer_state.specs.Views.{place_of, mode_of, consumer_of}
+use Rattle.instance.specs.Views.{Live as Seen, event_of}
+use Rattle.consumer_state.specs.declared.consumer.Consumer.{Consumer as Kept}
 use Rattle.instance.specs.declared.event.Event.{Event as CodeEvent}
 
 pub same : (a : Log) → SameCommits a a

@@ -11,10 +11,11 @@ use Rattle.broker_link.specs.Causes.{Counts}
 use Rattle.broker_link.specs.Replies.{CountsKept, IsCountedIf, IsGoodIf}
 use Rattle.instance.specs.declared.event.Event.{Event as CodeEvent}
 use Rattle.instance.specs.declared.event.Event.TheVariants.{Reset as CodeReset, Looked as CodeLooked}
-use Rattle.instance.specs.declared.consumer.Consumer.{Consumer as CodeConsumer}
-use Rattle.instance.specs.Acting.{forms}
+use Rattle.consumer_state.specs.declared.consumer.Consumer.{Consumer as CodeConsumer}
+use Rattle.consumer_state.specs.Acting.{forms}
 use Rattle.instance.specs.Lots.{rule_of}
-use Rattle.instance.specs.Views.{place_of, said_in}
+use Rattle.consumer_state.specs.Views.{place_of}
+use Rattle.instance.specs.Views.{said_in}
 use Rattle.instance.specs.declared.event.Outcome.{Outcome}
 use Rattle.rest_codes.specs.declared.response.Reply.TheVariants as reply
 

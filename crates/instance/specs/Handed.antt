@@ -10,7 +10,7 @@ use Rattle.model.specs.Entry.Event.{Looked}
 use Rattle.model.specs.Texts.{Response, response_of}
 use Rattle.model.specs.Noted.{events_of, said_of}
 use Rattle.model.specs.Look.{LookEnds, after_events, at_most}
-use Rattle.instance.specs.Acting.{forms}
+use Rattle.consumer_state.specs.Acting.{forms}
 use Rattle.instance.specs.Ending.{turn_of}
 use Rattle.instance.specs.Gathering.{AreGiven}
 use Rattle.instance.specs.Lots.{rule_of}

@@ -3,8 +3,8 @@ use Rattle.std.specs.Prelude.{ℕ, ◌++◌, codes, decimal, List, map, Option}
 use Rattle.json.specs.Print.{quoted}
 use Rattle.model.specs.World.Format.{Binary}
 use Rattle.model.specs.Bodies.{showing_text}
-use Rattle.instance.specs.declared.place.Place.{Place}
-use Rattle.instance.specs.Acting.{shows}
+use Rattle.consumer_state.specs.declared.place.Place.{Place}
+use Rattle.consumer_state.specs.Acting.{shows}
 
 -- a key or a value
 unfoldable pub bytes_text : Option (List ℕ) → List ℕ

@@ -1,12 +1,4 @@
 pub mod Views
-pub mod Acting
-pub mod Failing
-pub mod Linking
-pub mod Lacking
-pub mod Sorting
-pub mod Fixing
-pub mod Making
-pub mod Listing
 pub mod Telling
 pub mod Lots
 pub mod Items

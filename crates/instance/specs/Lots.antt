@@ -7,11 +7,11 @@ use Rattle.model.specs.Hand.{reads_in}
 use Rattle.broker_link.specs.Fetching.{row_of}
 use Rattle.broker_link.specs.declared.link.Stored.{Stored}
 use Rattle.broker_link.specs.declared.fetch.Fetched.{Fetched}
-use Rattle.instance.specs.declared.place.Place.{Place as CodePlace}
+use Rattle.consumer_state.specs.declared.place.Place.{Place as CodePlace}
 use Rattle.instance.specs.declared.walk.Pick.{Pick}
 use Rattle.instance.specs.declared.walk.Walk.{Walk}
-use Rattle.instance.specs.Acting.{forms}
-use Rattle.instance.specs.Views.{place_of}
+use Rattle.consumer_state.specs.Acting.{forms}
+use Rattle.consumer_state.specs.Views.{place_of}
 
 -- the rows that came for a place
 abbrev pub lot_of : CodePlace → Fetched → Lot

@@ -5,7 +5,7 @@ use Rattle.model.specs.Entry.Reply.{Done, Listed, Refused}
 use Rattle.rest_calls.specs.declared.call.Call.{Call}
 use Rattle.rest_calls.specs.declared.call.Call.TheVariants.{Create, Delete, Assignments}
 use Rattle.rest_codes.specs.declared.response.Reply.{Reply}
-use Rattle.instance.specs.Failing.{SaysOrWant}
+use Rattle.consumer_state.specs.Failing.{SaysOrWant}
 
 -- a Create finds the consumer live, a Delete is done, and the assignment is listed
 abbrev pub TellsSo : List TopicPart → Call → Reply → Type 0

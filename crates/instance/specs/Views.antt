@@ -1,51 +1,15 @@
--- What a consumer, its events and its replies stand for in the model (Confluent REST Proxy API v2, consumers).
-use Rattle.std.specs.Prelude.{◌≤◌, ◌⊎◌, nat_abs, List, [], ◌∷◌, map, length, option_map, Option}
+-- What an instance, its events and its replies stand for in the model (Confluent REST Proxy API v2, consumers).
+use Rattle.std.specs.Prelude.{◌⊎◌, List, map, option_map, Option}
 use Rattle.std.proofs.Common.{inr}
-use Rattle.model.specs.Log.{TopicPart}
-use Rattle.model.specs.Walk.{Place}
-use Rattle.model.specs.World.{Key, Mode, Consumer, IsInOrder, IsConsumer}
-use Rattle.model.specs.World.Mode.{Unset, Assigned}
+use Rattle.model.specs.World.{Key, Consumer}
 use Rattle.model.specs.Entry.{Event}
 use Rattle.model.specs.Entry.Event.{Reset, Looked}
 use Rattle.model.specs.Texts.{Response}
-use Rattle.rest_calls.specs.Views.{settings_of}
 use Rattle.rest_calls.specs.Responses.{response_in}
-use Rattle.instance.specs.declared.place.Place.{Place as CodePlace}
+use Rattle.consumer_state.specs.Views.{place_of}
 use Rattle.instance.specs.declared.event.Event.{Event as CodeEvent}
 use Rattle.instance.specs.declared.event.Event.TheVariants.{Reset as CodeReset, Looked as CodeLooked}
 use Rattle.instance.specs.declared.event.Outcome.{Outcome}
-use Rattle.instance.specs.declared.consumer.Consumer.{Consumer as CodeConsumer}
-
--- the partition of a place
-abbrev pub at_in : CodePlace → TopicPart
-at_in p = record { topic = p.topic; partition = nat_abs p.partition }
-
--- a place
-abbrev pub place_of : CodePlace → Place
-place_of p = record { at = at_in p; position = nat_abs p.position }
-
--- partitions are assigned, or none are
-abbrev pub mode_of : List Place → Mode
-mode_of [] = Unset
-mode_of (place ∷ places) = Assigned
-
--- the consumer
-abbrev pub consumer_of : CodeConsumer → Consumer
-consumer_of c = record {
-  settings = settings_of c.settings;
-  mode = mode_of (map place_of c.assignment.items);
-  topics = [];
-  assignment = map place_of c.assignment.items;
-  rotation = c.rotation;
-  unsaved = c.unsaved;
-  last_use = c.last_use;
-}
-
--- what holds of every consumer: its partitions rise, and the next walk begins at one of them or behind the last
-pub record IsSound (c : CodeConsumer) : Type 0 where
-  pub order : IsInOrder (map place_of c.assignment.items)
-  pub rotation : c.rotation ≤ length c.assignment.items
-  pub sound : IsConsumer (consumer_of c)
 
 -- a consumer under its key
 pub record Live : Type 0 where

@@ -1,4 +1,4 @@
-use crate::Place;
+use consumer_state::Place;
 use gate_io::Items;
 use rest_codes::Reply;
 

@@ -7,10 +7,10 @@ ghost use Rattle.broker_link.specs.declared.link.LinkNo.TheVariants.{Want};
 ghost use Rattle.instance.specs.Gathering.{AreGiven, GotFrom, HaveAll, asked};
 ghost use Rattle.instance.specs.Lots.{HasOffsets};
 ghost use Rattle.instance.specs.Passing.{Passes};
-ghost use Rattle.instance.specs.Views.{place_of};
+ghost use Rattle.consumer_state.specs.Views.{place_of};
 
-use crate::Place;
 use broker_link::{FetchFrom, Fetched, Link, LinkNo};
+use consumer_state::Place;
 use gate_io::{Items, Text};
 use std::alloc::{AllocError, Global};
 

@@ -1,26 +1,23 @@
 ghost use Rattle.std.specs.Prelude.{◌≡◌, ◌≢◌, ◌<◌, ◌*◌, ◌^◌, ℕ, List, [], IfOk, Option, None, Some, map};
-ghost use Rattle.broker_link.specs.Stands.{Goes};
 ghost use Rattle.model.specs.World.{IsConsumer, fresh, is_key};
 ghost use Rattle.model.specs.World.Mode.{ByTopics};
 ghost use Rattle.model.specs.Entry.{Act};
 ghost use Rattle.model.specs.Entry.Act.{Records};
 ghost use Rattle.model.specs.Entry.Call.{Of};
-ghost use Rattle.model.specs.Fixed.{SameCommits};
 ghost use Rattle.model.specs.Noted.{EndsInLook};
 ghost use Rattle.rest_calls.specs.Views.{asked_of, key_in, settings_of};
-ghost use Rattle.instance.specs.Acting.{ActsSo};
+ghost use Rattle.consumer_state.specs.Acting.{ActsSo};
 ghost use Rattle.instance.specs.Handed.{LooksAtGiven};
 ghost use Rattle.rest_calls.specs.Responses.{response_in};
+ghost use Rattle.instance.specs.Passing.{Consults};
 ghost use Rattle.instance.specs.Telling.{TellsSo};
-ghost use Rattle.instance.specs.Views.{at_in, events_in, said_in};
+ghost use Rattle.consumer_state.specs.Views.{at_in};
+ghost use Rattle.instance.specs.Views.{events_in, said_in};
 
 use crate::Outcome;
-use crate::assign::assign;
-use crate::consumer::Consumer;
-use crate::failure::refused;
-use crate::listing::listing;
 use crate::look::look;
 use broker_link::Link;
+use consumer_state::{Consumer, assign_parts, listed, refused};
 use gate_io::{Items, Text, Want};
 use rest_calls::{Call, Settings};
 use rest_codes::Reply;
@@ -36,7 +33,8 @@ pub struct Instance {
 }
 
 impl Model for Instance {
-    ghost use Rattle.instance.specs.Views.{IsSound, Live, consumer_of};
+    ghost use Rattle.consumer_state.specs.Views.{IsSound, consumer_of};
+    ghost use Rattle.instance.specs.Views.{Live};
 
     ghost Value = { Live };
 
@@ -64,7 +62,7 @@ fn told(alloc: Global, consumer: &Consumer, call: &Call) -> Reply
     match call {
         Call::Create { .. } => refused(alloc, 40902),
         Call::Delete { .. } => Reply::Empty,
-        Call::Assignments { .. } => listing(alloc, consumer.assignment.as_slice()),
+        Call::Assignments { .. } => listed(alloc, consumer.assignment.as_slice()),
         _ => Reply::Want,
     }
 }
@@ -136,8 +134,7 @@ impl Instance {
         ensures looks { result.reply ≡ None → EndsInLook (events_in result) round }
         ensures sound { IsConsumer self.new.consumer }
 
-        ensures goes { Goes (L.stand link.old) (L.stand link.new) }
-        ensures commits { (L.stand link.old).tells → SameCommits (L.stand link.old).log (L.stand link.new).log }
+        ensures consults { Consults (L.stand link.old) (L.stand link.new) }
     {
         match call {
             Call::Records {
@@ -155,7 +152,7 @@ impl Instance {
             ),
             Call::Assign { parts, .. } => answered(
                 alloc,
-                assign(
+                assign_parts(
                     &mut self.consumer,
                     alloc,
                     link,

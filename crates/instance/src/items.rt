@@ -1,15 +1,14 @@
 ghost use Rattle.std.specs.Prelude.{◌≡◌, ◌++◌, ◌+◌, ◌-◌, ◌*◌, ◌/◌, ◌<◌, ◌^◌, min, List, [], cond, codes, length, map, nat_abs, string_bytes, All, IfOk, OnOk};
 ghost use Rattle.model.specs.Bodies.{array, item_text};
 ghost use Rattle.model.specs.World.Format.{Binary};
-ghost use Rattle.instance.specs.Acting.{forms};
+ghost use Rattle.consumer_state.specs.Acting.{forms};
 ghost use Rattle.instance.specs.Items.{bytes_text, front_text, place_text, quoted_topics};
 ghost use Rattle.instance.specs.Lots.{HasRow, IsPick, item_in, lots_of, seen, stored_in};
 
-use crate::Place;
-use crate::quote::quoted_text;
 use crate::walk::{Lots, Pick, Walk};
 use base64::engine::general_purpose::STANDARD;
 use broker_link::{Fetched, Stored};
+use consumer_state::{Place, quoted_text};
 use gate_io::{Items, Text};
 use itoa::Buffer;
 use std::alloc::{AllocError, Global};

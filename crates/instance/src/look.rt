@@ -1,35 +1,34 @@
 ghost use Rattle.std.specs.Prelude.{◌≡◌, ◌*◌, ◌≤◌, ◌^◌, min, None, ◌++◌, [], ◌∷◌, ◌<◌, All, IfOk, IfErr, OnErr, List, ℕ, length, map, option_map};
 ghost use Rattle.model.specs.Log.{IsLog};
-ghost use Rattle.broker_link.specs.Stands.{Goes};
 ghost use Rattle.model.specs.World.{IsInOrder, IsLow, Key};
 ghost use Rattle.model.specs.Entry.Act.{Records};
 ghost use Rattle.model.specs.Events.{at_most};
-ghost use Rattle.model.specs.Fixed.{SameCommits};
 ghost use Rattle.model.specs.Noted.{EndsInLook};
 ghost use Rattle.broker_link.specs.Causes.{ComesOf};
 ghost use Rattle.broker_link.specs.Fetching.{edge_view, rows_in};
 ghost use Rattle.broker_link.specs.declared.link.LinkNo.TheVariants.{Want};
 ghost use Rattle.instance.specs.Gathering.{AreGiven, HaveAll, IsHand, SetsBack};
-ghost use Rattle.instance.specs.Passing.{Passes};
+ghost use Rattle.instance.specs.Passing.{Consults, Passes};
 ghost use Rattle.model.specs.Bodies.{array, item_text};
 ghost use Rattle.model.specs.Walk.{bytes_of, turned, unwalked, walk};
 ghost use Rattle.model.specs.World.Format.{Binary};
 ghost use Rattle.rest_calls.specs.Responses.{response_in};
 ghost use Rattle.instance.specs.declared.event.Event.TheVariants.{Looked};
-ghost use Rattle.instance.specs.Acting.{ActsSo, forms};
+ghost use Rattle.consumer_state.specs.Acting.{ActsSo, forms};
 ghost use Rattle.instance.specs.Ending.{IsEnded, IsKept, IsOver};
 ghost use Rattle.instance.specs.Handed.{LooksAtGiven};
 ghost use Rattle.instance.specs.Lots.{HasOffsets, IsPick, lots_of, rule_of, seen};
-ghost use Rattle.instance.specs.Views.{IsSound, consumer_of, events_in, place_of, said_in};
+ghost use Rattle.consumer_state.specs.Views.{IsSound, consumer_of, place_of};
+ghost use Rattle.instance.specs.Views.{events_in, said_in};
 
-use crate::consumer::Consumer;
-use crate::failure::link_failure;
 use crate::fetching::{all_inside, bytes_for, fetch_from};
 use crate::items::shown_text;
+use crate::moves::move_behind;
 use crate::resets::set_back;
 use crate::walk::{Lots, Walk, go_round};
-use crate::{Event, Outcome, Place};
+use crate::{Event, Outcome};
 use broker_link::{Edge, Fetched, Link, LinkNo};
+use consumer_state::{Consumer, Place, link_failure};
 use gate_io::{Items, Text};
 use rest_codes::{Media, Reply};
 use std::alloc::{AllocError, Global};
@@ -146,7 +145,7 @@ fn settle(
     }
     let text = text_of(consumer, alloc, fetched, &walk)?;
     events.push(Event::Looked(round))?;
-    consumer.move_behind(fetched, walk.picks.as_slice());
+    move_behind(consumer, fetched, walk.picks.as_slice());
     Ok(Some(Reply::Body {
         media: Media::Binary,
         text,
@@ -245,8 +244,7 @@ pub(crate) fn look<L: Link>(
     ensures waits { result.reply ≡ None → 10 * round < 2 ^ 32 }
     ensures looks { result.reply ≡ None → EndsInLook (events_in result) round }
 
-    ensures goes { Goes (L.stand link.old) (L.stand link.new) }
-    ensures commits { (L.stand link.old).tells → SameCommits (L.stand link.old).log (L.stand link.new).log }
+    ensures consults { Consults (L.stand link.old) (L.stand link.new) }
 {
     consumer.last_use = now;
     let wait = at_most(u64::from(consumer.settings.timeout_ms), timeout);

@@ -2,13 +2,12 @@ ghost use Rattle.std.specs.Prelude.{◌≡◌, ◌+◌, ◌<◌, ◌≤ℤ◌, p
 ghost use Rattle.model.specs.Events.{moved};
 ghost use Rattle.model.specs.World.{IsApart, IsLow, moved_places};
 ghost use Rattle.instance.specs.Lots.{HasOffsets, IsOffset, IsPick, item_in, lots_of, put_at};
-ghost use Rattle.instance.specs.Views.{IsSound, consumer_of, place_of};
+ghost use Rattle.consumer_state.specs.Views.{IsSound, consumer_of, place_of};
 
-use crate::Place;
-use crate::consumer::Consumer;
 use crate::items::stored_at;
 use crate::walk::Pick;
 use broker_link::{Fetched, Stored};
+use consumer_state::{Consumer, Place};
 
 /// The offset behind a record's.
 fn behind(stored: &Stored) -> i64
@@ -44,22 +43,20 @@ fn advance(assignment: &mut [Place], fetched: &[Fetched], picks: &[Pick])
     }
 }
 
-impl Consumer {
-    /// Moves the positions, the rotation place and the mark behind the rows that were taken.
-    pub fn move_behind(&mut self, fetched: &[Fetched], picks: &[Pick])
-        requires sound { IsSound self.old }
-        requires same { length fetched.now ≡ length self.old.assignment.items }
-        requires picks { All (IsPick (lots_of self.old.assignment.items fetched.now)) picks.now }
-        requires offsets { All HasOffsets fetched.now }
-        ensures moved { consumer_of self.new ≡ moved (map (item_in (lots_of self.old.assignment.items fetched.now)) picks.now) (consumer_of self.old) }
-        ensures sound { IsSound self.new }
-    {
-        let count = picks.len();
-        if count == 0 {
-            return;
-        }
-        advance(&mut self.assignment, fetched, picks);
-        self.rotation = (picks[count - 1].lot + 1) % self.assignment.len();
-        self.unsaved = true;
+/// Moves the positions, the rotation place and the mark behind the rows that were taken.
+pub(crate) fn move_behind(consumer: &mut Consumer, fetched: &[Fetched], picks: &[Pick])
+    requires sound { IsSound consumer.old }
+    requires same { length fetched.now ≡ length consumer.old.assignment.items }
+    requires picks { All (IsPick (lots_of consumer.old.assignment.items fetched.now)) picks.now }
+    requires offsets { All HasOffsets fetched.now }
+    ensures moved { consumer_of consumer.new ≡ moved (map (item_in (lots_of consumer.old.assignment.items fetched.now)) picks.now) (consumer_of consumer.old) }
+    ensures sound { IsSound consumer.new }
+{
+    let count = picks.len();
+    if count == 0 {
+        return;
     }
+    advance(&mut consumer.assignment, fetched, picks);
+    consumer.rotation = (picks[count - 1].lot + 1) % consumer.assignment.len();
+    consumer.unsaved = true;
 }

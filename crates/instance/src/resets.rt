@@ -9,11 +9,12 @@ ghost use Rattle.broker_link.specs.declared.link.LinkNo.TheVariants.{Want};
 ghost use Rattle.instance.specs.Ending.{own_of};
 ghost use Rattle.instance.specs.Gathering.{AreSet, AreTold, EdgesTold, HaveAll, IsEdgeIf, IsLowIf, news_of, put_all, put_maybe};
 ghost use Rattle.instance.specs.Passing.{Passes};
-ghost use Rattle.instance.specs.Views.{at_in, place_of};
+ghost use Rattle.consumer_state.specs.Views.{at_in, place_of};
 
+use crate::Event;
 use crate::moves::put_position;
-use crate::{Event, Place};
 use broker_link::{Edge, Fetched, Link, LinkNo};
+use consumer_state::Place;
 use gate_io::{Items, Text};
 use std::alloc::{AllocError, Global};
 

@@ -3,8 +3,8 @@ ghost use Rattle.broker_link.specs.Fetching.{row_of};
 ghost use Rattle.model.specs.Walk.{Lot, bytes_of, length_of, size_of, turned, unwalked, walk, walk_part};
 ghost use Rattle.instance.specs.Lots.{IsPick, is_enough, lot_at, lots_of, rule_of, seen};
 
-use crate::Place;
 use broker_link::{Fetched, Stored};
+use consumer_state::Place;
 use gate_io::Items;
 use std::alloc::{AllocError, Global};
 

@@ -1,7 +1,7 @@
 use Rattle.std.proofs.Common.{subst, sym}
 use Rattle.producer.specs.Replies.{refusal_reply}
 use Rattle.producer.specs.declared.request.ProduceNo.{ProduceNo}
-use Rattle.instance.specs.Failing.{SaysOrWant}
+use Rattle.consumer_state.specs.Failing.{SaysOrWant}
 use Rattle.desk.proofs.offsets.no_answer.Goals as goal
 
 pub returns-in-NoTopic : goal.returns-in-NoTopic

@@ -12,7 +12,7 @@ use Rattle.broker_link.specs.declared.fetch.FetchFrom.{FetchFrom}
 use Rattle.broker_link.specs.declared.fetch.Fetched.{Fetched}
 use Rattle.instance.specs.Gathering.{AreGiven, asked, GotFrom}
 use Rattle.instance.specs.Lots.{HasOffsets}
-use Rattle.instance.specs.Views.{place_of}
+use Rattle.consumer_state.specs.Views.{place_of}
 use Rattle.instance.proofs.Gathering.{offsets_of, got_from, have_asked}
 use Rattle.instance.proofs.Turning.{turned_asks, asked_turned, given_turned_back, got_turned_back, length_turned}
 use Rattle.instance.proofs.fetching.fetch_from.Goals as goal

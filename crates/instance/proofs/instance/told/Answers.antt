@@ -1,14 +1,14 @@
 use Rattle.std.proofs.Common.{List, map, sym, subst}
 use Rattle.model.specs.Entry.Reply.{Listed}
 use Rattle.rest_calls.specs.declared.call.Call.{Call}
-use Rattle.instance.specs.Failing.{SaysOrWant}
+use Rattle.consumer_state.specs.Failing.{SaysOrWant}
 use Rattle.instance.specs.Telling.{TellsSo}
-use Rattle.instance.specs.Views.{at_in}
-use Rattle.instance.specs.declared.place.Place.{Place as CodePlace}
+use Rattle.consumer_state.specs.Views.{at_in}
+use Rattle.consumer_state.specs.declared.place.Place.{Place as CodePlace}
 use Rattle.instance.proofs.instance.told.Goals as goal
 
 pub returns-in-Assignments : goal.returns-in-Assignments
 returns-in-Assignments c = record {
-  says = subst (λ (call : Call). TellsSo (map at_in c.args.consumer.now.assignment.items) call c.listing.result) (sym c.in-Assignments.is)
-      (subst (λ (l : List CodePlace). SaysOrWant (Listed (map at_in l)) c.listing.result) c.as_slice.ensures.value c.listing.ensures.says);
+  says = subst (λ (call : Call). TellsSo (map at_in c.args.consumer.now.assignment.items) call c.listed.result) (sym c.in-Assignments.is)
+      (subst (λ (l : List CodePlace). SaysOrWant (Listed (map at_in l)) c.listed.result) c.as_slice.ensures.value c.listed.ensures.says);
 }

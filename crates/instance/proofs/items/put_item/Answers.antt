@@ -2,7 +2,7 @@ use Rattle.std.proofs.Common.{◌≡◌, ◌++◌, ap, sym, ◌∙◌, subst, ar
 use Rattle.std.specs.Prelude.{OnOk, string_bytes}
 use Rattle.std.proofs.lemmas.List.{get_or_default}
 use Rattle.std.proofs.lemmas.Int.{to_z-of_z}
-use Rattle.instance.specs.declared.place.Place.{Place}
+use Rattle.consumer_state.specs.declared.place.Place.{Place}
 use Rattle.instance.proofs.Picking.{item_text_is}
 use Rattle.instance.proofs.items.put_item.Goals as goal
 

@@ -2,7 +2,7 @@ use Rattle.std.proofs.Common.{◌≡◌, ◌++◌, take, map}
 use Rattle.std.specs.Prelude.{codes, string_bytes}
 use Rattle.model.specs.World.Format.{Binary}
 use Rattle.model.specs.Bodies.{joined, item_text}
-use Rattle.instance.specs.Acting.{forms}
+use Rattle.consumer_state.specs.Acting.{forms}
 use Rattle.instance.specs.Lots.{item_in, lots_of}
 use Rattle.instance.proofs.items.shown_text.Given as goal
 

@@ -4,8 +4,8 @@ use Rattle.std.proofs.lemmas.List.{with_items_is}
 use Rattle.std.specs.Vec.{with_items}
 use Rattle.model.specs.Walk.{Place}
 use Rattle.model.specs.World.{IsInOrder, IsLow}
-use Rattle.instance.specs.declared.place.Place.{Place as CodePlace}
-use Rattle.instance.specs.Views.{place_of}
+use Rattle.consumer_state.specs.declared.place.Place.{Place as CodePlace}
+use Rattle.consumer_state.specs.Views.{place_of}
 use Rattle.instance.proofs.Setting.{order_set}
 use Rattle.instance.proofs.look.gather_for.Goals as goal
 

@@ -8,8 +8,9 @@ use Rattle.broker_link.specs.Fetching.{rows_in}
 use Rattle.broker_link.specs.declared.fetch.Fetched.{Fetched}
 use Rattle.instance.specs.Gathering.{AreGiven, IsHand}
 use Rattle.instance.specs.Lots.{HasOffsets, lots_of}
-use Rattle.instance.specs.declared.place.Place.{Place as CodePlace}
-use Rattle.instance.specs.Views.{consumer_of, event_of, place_of}
+use Rattle.consumer_state.specs.declared.place.Place.{Place as CodePlace}
+use Rattle.consumer_state.specs.Views.{consumer_of, place_of}
+use Rattle.instance.specs.Views.{event_of}
 use Rattle.instance.proofs.Gathering.{whose_are}
 use Rattle.instance.proofs.Handing.{handed_failed, handed_over, rows_of_lots}
 use Rattle.instance.proofs.Looking.{acts_over, acts_failed, is_binary, mid_is, passed}

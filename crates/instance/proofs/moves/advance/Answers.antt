@@ -2,7 +2,7 @@ use Rattle.std.proofs.Common.{◌≡◌, ◌<◌, ℤ, map, length, pos, ◌≤�
 use Rattle.std.proofs.lemmas.Int.{to_z-of_z}
 use Rattle.instance.specs.declared.walk.Pick.{Pick}
 use Rattle.instance.specs.Lots.{IsOffset, put_at}
-use Rattle.instance.specs.Views.{place_of}
+use Rattle.consumer_state.specs.Views.{place_of}
 use Rattle.instance.proofs.Picking.{has_row, pick_within, stored_offset}
 use Rattle.instance.proofs.Moving.{moved_none, advance_more}
 use Rattle.instance.proofs.moves.advance.Goals as goal

@@ -5,9 +5,9 @@ use Rattle.std.proofs.lemmas.List.Elements.{All-push}
 use Rattle.model.specs.Log.{Log}
 use Rattle.broker_link.specs.Fetching.{edge_view}
 use Rattle.instance.specs.Gathering.{AreTold, EdgesTold, IsLowIf}
-use Rattle.instance.specs.Views.{place_of}
+use Rattle.consumer_state.specs.Views.{place_of}
 use Rattle.instance.proofs.Passing.{passes_on, comes_on}
-use Rattle.instance.proofs.Fixing.{has_part_later}
+use Rattle.consumer_state.proofs.Fixing.{has_part_later}
 use Rattle.instance.proofs.Resetting.{told_more, edges_told_more, has_at}
 use Rattle.instance.proofs.resets.tell_edges.Goals as goal
 

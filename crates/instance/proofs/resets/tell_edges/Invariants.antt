@@ -4,7 +4,7 @@ use Rattle.model.specs.Log.{IsLog}
 use Rattle.broker_link.specs.Fetching.{edge_view}
 use Rattle.instance.specs.Gathering.{AreTold, EdgesTold, IsLowIf}
 use Rattle.instance.specs.Passing.{Passes}
-use Rattle.instance.specs.Views.{place_of}
+use Rattle.consumer_state.specs.Views.{place_of}
 use Rattle.instance.proofs.resets.tell_edges.Given as goal
 
 abbrev pub invariant-loop-i : goal.invariant-loop-i

@@ -5,7 +5,7 @@ use Rattle.model.specs.Entry.{Act, Call}
 use Rattle.model.specs.Entry.Call.{Of}
 use Rattle.rest_calls.specs.Views.{asked_of, key_in}
 use Rattle.instance.specs.Views.{Live}
-use Rattle.instance.specs.Making.{SaysMade}
+use Rattle.consumer_state.specs.Making.{SaysMade}
 use Rattle.desk.specs.Consumers.{Puts}
 use Rattle.desk.specs.Keys.{consumer_key}
 use Rattle.desk.specs.Shelf.{consumer_in, is_create_call}

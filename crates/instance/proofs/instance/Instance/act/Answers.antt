@@ -1,4 +1,4 @@
-use Rattle.std.proofs.Common.{ap}
+use Rattle.std.proofs.Common.{ap, refl}
 use Rattle.model.specs.World.{Key}
 use Rattle.broker_link.proofs.Going.{goes_nowhere}
 use Rattle.instance.specs.Views.{Live}
@@ -22,6 +22,5 @@ returns-in_default g c =
       waits = λ none. absurd (cc (none, c.answered-in_default.ensures.some));
       looks = λ none. absurd (cc (none, c.answered-in_default.ensures.some));
       sound = record { order = sound.order; low = sound.low; names = sound.names };
-      goes = goes_nowhere (g.L.Link.stand c.args.link.now);
-      commits = λ t. same a;
+      consults = record { goes = goes_nowhere (g.L.Link.stand c.args.link.now); commits = λ t. same a; asked = refl };
     }

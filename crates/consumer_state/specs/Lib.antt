@@ -1,0 +1,9 @@
+pub mod Views
+pub mod Acting
+pub mod Failing
+pub mod Linking
+pub mod Lacking
+pub mod Sorting
+pub mod Fixing
+pub mod Making
+pub mod Listing

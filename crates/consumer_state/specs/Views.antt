@@ -1,0 +1,40 @@
+-- What a consumer stands for in the model (Confluent REST Proxy API v2, consumers).
+use Rattle.std.specs.Prelude.{◌≤◌, nat_abs, List, [], ◌∷◌, map, length}
+use Rattle.model.specs.Log.{TopicPart}
+use Rattle.model.specs.Walk.{Place}
+use Rattle.model.specs.World.{Mode, Consumer, IsInOrder, IsConsumer}
+use Rattle.model.specs.World.Mode.{Unset, Assigned}
+use Rattle.rest_calls.specs.Views.{settings_of}
+use Rattle.consumer_state.specs.declared.place.Place.{Place as CodePlace}
+use Rattle.consumer_state.specs.declared.consumer.Consumer.{Consumer as CodeConsumer}
+
+-- the partition of a place
+abbrev pub at_in : CodePlace → TopicPart
+at_in p = record { topic = p.topic; partition = nat_abs p.partition }
+
+-- a place
+abbrev pub place_of : CodePlace → Place
+place_of p = record { at = at_in p; position = nat_abs p.position }
+
+-- partitions are assigned, or none are
+abbrev pub mode_of : List Place → Mode
+mode_of [] = Unset
+mode_of (place ∷ places) = Assigned
+
+-- the consumer
+abbrev pub consumer_of : CodeConsumer → Consumer
+consumer_of c = record {
+  settings = settings_of c.settings;
+  mode = mode_of (map place_of c.assignment.items);
+  topics = [];
+  assignment = map place_of c.assignment.items;
+  rotation = c.rotation;
+  unsaved = c.unsaved;
+  last_use = c.last_use;
+}
+
+-- what holds of every consumer: its partitions rise, and the next walk begins at one of them or behind the last
+pub record IsSound (c : CodeConsumer) : Type 0 where
+  pub order : IsInOrder (map place_of c.assignment.items)
+  pub rotation : c.rotation ≤ length c.assignment.items
+  pub sound : IsConsumer (consumer_of c)

@@ -1,0 +1,102 @@
+ghost use Rattle.std.specs.Prelude.{◌≡◌, ◌+◌, ◌++◌, ◌<◌, ◌≤◌, IfOk, OnOk, List, [], ◌∷◌, filter, length, map, option_map, pos, None};
+ghost use Rattle.model.specs.Log.{is_at};
+ghost use Rattle.model.specs.World.{position_in};
+ghost use Rattle.broker_link.specs.Fetching.{at_of};
+ghost use Rattle.consumer_state.specs.Fixing.{is_new, known_at, merged, next_after};
+ghost use Rattle.consumer_state.specs.Views.{at_in, place_of};
+
+use crate::Place;
+use crate::order::copied;
+use broker_link::TopicPart;
+use std::alloc::{AllocError, Global};
+
+fn is_there(place: &Place, part: &TopicPart) -> bool
+    ensures { result ≡ is_at (at_of part.now) (at_in place.now) }
+{
+    part.topic.as_str() == place.topic.as_str()
+        && part.partition.unsigned_abs() == place.partition.unsigned_abs()
+}
+
+/// The position of the partition among these places.
+fn position_of(kept: &[Place], part: &TopicPart) -> Option<i64>
+    ensures { result ≡ option_map pos (position_in (map place_of kept.now) (at_of part.now)) }
+{
+    for place in kept {
+        if is_there(place, part) {
+            return Some(place.position);
+        }
+    }
+    None
+}
+
+fn put_new(
+    alloc: Global,
+    kept: &[Place],
+    news: &mut Vec<TopicPart>,
+    part: &TopicPart,
+) -> Result<(), AllocError>
+    ensures { OnOk result (map at_of news.new.items ≡ map at_of news.old.items ++ filter (is_new (map place_of kept.now)) (at_of part.now ∷ [])) }
+{
+    if position_of(kept, part).is_some() {
+        return Ok(());
+    }
+    news.push(copied(alloc, part)?)?;
+    Ok(())
+}
+
+/// Those of the partitions that weren't assigned, in order.
+pub(crate) fn news_of(
+    alloc: Global,
+    kept: &[Place],
+    parts: &[TopicPart],
+) -> Result<Vec<TopicPart>, AllocError>
+    ensures { IfOk result (λ news. map at_of news.items ≡ filter (is_new (map place_of kept.now)) (map at_of parts.now)) }
+{
+    let mut news = Vec::new(alloc);
+    for part in parts {
+        put_new(alloc, kept, &mut news, part)?;
+    }
+    Ok(news)
+}
+
+/// Puts what is known of one partition more, and gives the place of the next new one's offset.
+fn put_known(
+    kept: &[Place],
+    part: &TopicPart,
+    offsets: &[i64],
+    next: usize,
+    known: &mut Vec<i64>,
+) -> Result<usize, AllocError>
+    requires within { position_in (map place_of kept.now) (at_of part.now) ≡ None → next < length offsets.now }
+    ensures put { OnOk result (known.new.items ≡ known.old.items ++ known_at (position_in (map place_of kept.now) (at_of part.now)) offsets.now next ∷ []) }
+    ensures next { IfOk result (λ n. n ≡ next_after (position_in (map place_of kept.now) (at_of part.now)) next) }
+{
+    match position_of(kept, part) {
+        Some(position) => {
+            known.push(position)?;
+            Ok(next)
+        }
+        None => {
+            known.push(offsets[next])?;
+            Ok(next + 1)
+        }
+    }
+}
+
+/// What is known of each partition: its position, else the next of these committed offsets.
+pub(crate) fn known_of(
+    alloc: Global,
+    kept: &[Place],
+    parts: &[TopicPart],
+    offsets: &[i64],
+) -> Result<Vec<i64>, AllocError>
+    requires { length offsets.now ≡ length (filter (is_new (map place_of kept.now)) (map at_of parts.now)) }
+    ensures { IfOk result (λ known. known.items ≡ merged (map place_of kept.now) (map at_of parts.now) offsets.now 0) }
+{
+    let mut known = Vec::new(alloc);
+    let mut next = 0;
+    for part in parts {
+        next = put_known(kept, part, offsets, next, &mut known)?;
+    }
+    Ok(known)
+}

@@ -1,8 +1,0 @@
-use Rattle.std.proofs.Common.{◌≡◌, drop, map}
-use Rattle.model.specs.World.{position_in}
-use Rattle.broker_link.specs.Fetching.{at_of}
-use Rattle.instance.specs.Views.{place_of}
-use Rattle.instance.proofs.known.position_of.Given as goal
-
-abbrev pub invariant-loop-place : goal.invariant-loop-place
-invariant-loop-place l = position_in (map place_of l.kept) (at_of l.part) ≡ position_in (map place_of (drop l.place-index l.kept)) (at_of l.part)
