@@ -7,9 +7,7 @@ ghost use Rattle.wire_prim.specs.Crc.{checksum};
 use broker_link::NewRecord;
 use gate_io::{Items, Want};
 use std::alloc::Global;
-use wire_prim::{
-    crc32c, put_int8, put_int16, put_int32, put_int64, put_varint, put_varlong, varint_len,
-};
+use wire_prim::{crc32c, put_int8, put_int16, put_int32, put_int64, put_varint, varint_len};
 
 fn put(out: &mut Vec<u8>, piece: &[u8]) -> Result<(), Want>
     ensures { OnOk result (out.new.items ≡ out.old.items ++ piece.now) }
@@ -46,8 +44,7 @@ fn put_body(out: &mut Vec<u8>, delta: i32, row: &NewRecord) -> Result<(), Want>
     ensures { (n : ℕ) → delta ≡ pos n
         → OnOk result (out.new.items ≡ out.old.items ++ body_bytes n row.now) }
 {
-    put_int8(out, 0)?;
-    put_varlong(out, 0)?;
+    put(out, &[0, 0])?; // attributes, and a timestamp delta of 0
     put_varint(out, delta)?;
     put_nullable(out, &row.key)?;
     put_nullable(out, &row.value)?;

@@ -6,7 +6,7 @@ ghost use Rattle.wire_data.specs.Produce.{produce_request, produce_request_laid,
 use gate_io::{Items, Text, Want};
 use std::alloc::Global;
 use wire_layout::{
-    Laid, Message, Put, WireNo, put_nullable_piece, decode_nullable_piece, read_whole, write_whole,
+    Laid, Message, Put, WireNo, decode_nullable_piece, put_nullable_piece, read_whole, write_whole,
 };
 use wire_prim::{Cursor, PrimNo};
 

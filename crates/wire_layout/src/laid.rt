@@ -18,7 +18,7 @@ pub trait Put {
         ensures fits { OnOk result (layout.fits self.now) };
 }
 
-/// A value that can be read too, and is told by its bytes.
+/// A value that can be read too, and is told by its bytes: they read as this value, whatever follows them, and as no other.
 pub trait Laid: Put {
     /// Reads it where the cursor stands. After a refusal, but for want of memory, the cursor stands at the first byte of the item that doesn't read.
     fn decode(alloc: Global, cursor: &mut Cursor) -> Result<Self, PrimNo>
