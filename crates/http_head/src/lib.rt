@@ -9,5 +9,5 @@ mod target;
 mod verdict;
 
 pub use asked::asked_text;
-pub use fields::{asks_close, is_encoded, joined_values};
+pub use fields::{Framing, asks_close, is_encoded, joined_values};
 pub use verdict::{Head, Verdict, judge};
