@@ -1,7 +1,7 @@
 -- The requests that bytes begin with, one more of them, and those that stand in the front of the bytes.
-use Rattle.std.proofs.Common.{◌≡◌, ℕ, ◌+◌, ◌<◌, false, List, [], ◌∷◌, ◌++◌, length, refl, ap, sym, subst, ◌∙◌, arith, append_assoc}
+use Rattle.std.proofs.Common.{◌≡◌, ℕ, ◌+◌, ◌<◌, false, List, [], ◌∷◌, ◌++◌, length, refl, sym, subst, arith}
 use Rattle.std.proofs.lemmas.List.{append_cancel_right}
-use Rattle.httparse.specs.Grammar.{print_request}
+use Rattle.http_conn.proofs.BeginsLemmas.{request_cut}
 use Rattle.http_conn.specs.Stream.{Begins, IsRequest, is_closed, max_requests}
 use Rattle.http_conn.specs.declared.request.Request.{Request}
 
@@ -18,39 +18,19 @@ begins_push n bytes (q ∷ p ∷ qs) mid r rest begins few still is =
     length_is : (q : Request) (qs : List Request) → length (q ∷ qs) ≡ length qs + 1
     length_is q qs = omega arith
 
--- the bytes of a request, and those behind it
-request_bytes : (bytes : List ℕ) (r : Request) (rest : List ℕ) → (is : IsRequest bytes r rest) → bytes ≡ (print_request is.head ++ r.body) ++ rest
-request_bytes bytes r rest is = is.at.reads.1 ∙ ap (λ (l : List ℕ). print_request is.head ++ l) is.body ∙ sym (append_assoc (print_request is.head) r.body rest)
-
 -- a request that ends before the tail stands in what is before the tail
 request_front : (got held tail : List ℕ) (r : Request) → IsRequest (got ++ tail) r (held ++ tail) → IsRequest got r held
 request_front got held tail r is =
-    let whole : got ++ tail ≡ ((print_request is.head ++ r.body) ++ held) ++ tail =
-    request_bytes (got ++ tail) r (held ++ tail) is ∙ sym (append_assoc (print_request is.head ++ r.body) held tail) in
-    let front : got ≡ (print_request is.head ++ r.body) ++ held = append_cancel_right got _ tail whole in
-    record {
-      head = is.head;
-      after = r.body ++ held;
-      at = record { reads = (is.at.reads.0, front ∙ append_assoc (print_request is.head) r.body held); short = is.at.short };
-      size = is.size;
-      body = refl;
-      method = is.method;
-      path = is.path;
-      query = is.query;
-      accept = is.accept;
-      content_type = is.content_type;
-      encoded = is.encoded;
-      close = is.close;
-    }
+    let cut = request_cut (got ++ tail) r held tail is in
+    subst (λ (l : List ℕ). IsRequest l r held) (sym (append_cancel_right got cut.0 tail cut.1)) cut.2
 
 -- what is behind the requests is behind their bytes
 begins_tail : (n : ℕ) (bytes : List ℕ) (rs : List Request) (held tail : List ℕ) → Begins n bytes rs (held ++ tail) → (front : List ℕ) × (bytes ≡ front ++ tail)
 begins_tail n bytes [] held tail begins = (held, begins)
 begins_tail n bytes (r ∷ rs) held tail begins =
-    let is : IsRequest bytes r begins.1.0 = begins.1.1 in
     let behind = begins_tail (n + 1) begins.1.0 rs held tail begins.1.2 in
-    let front : List ℕ = print_request is.head ++ r.body in
-    (front ++ behind.0, request_bytes bytes r begins.1.0 is ∙ ap (λ (l : List ℕ). front ++ l) behind.1 ∙ sym (append_assoc front behind.0 tail))
+    let cut = request_cut bytes r behind.0 tail (subst (λ (l : List ℕ). IsRequest bytes r l) behind.1 begins.1.1) in
+    (cut.0, cut.1)
 
 -- requests that end before the tail stand in what is before the tail
 pub begins_front : (n : ℕ) (got : List ℕ) (rs : List Request) (held tail : List ℕ) → Begins n (got ++ tail) rs (held ++ tail) → Begins n got rs held

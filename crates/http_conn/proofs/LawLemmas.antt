@@ -1,16 +1,20 @@
 -- The cases of the definition exclude one another, and each is fixed by its bytes.
-use Rattle.std.proofs.Common.{◌≡◌, ℕ, ◌+◌, ◌-◌, ◌<◌, ◌≤◌, true, List, [], ◌∷◌, ◌++◌, length, take, drop, Result, Ok, Err, refl, ap, sym, subst, ◌∙◌, arith, append_assoc, length-append, inl, inr, codes}
+use Rattle.std.proofs.Common.{◌≡◌, ℕ, ◌+◌, ◌-◌, ◌<◌, ◌≤◌, true, List, [], ◌∷◌, ◌++◌, length, take, Result, Ok, Err, refl, ap, sym, subst, ◌∙◌, arith, append_assoc, length-append, inl, inr, codes}
 use Rattle.std.specs.List.{before_first, after_first, list_any}
 use Rattle.std.proofs.lemmas.List.Elements.{All-nil, All-cons, All-take}
-use Rattle.std.proofs.Math.Seq.{take-append_seam, drop-append_seam, take-append-add}
+use Rattle.std.proofs.Math.Seq.{take-append_seam, take-append-add}
 use Rattle.std.proofs.lemmas.Str.{IsUtf8-from_ascii}
 use Rattle.std.proofs.lemmas.Str.Ascii.{IsAscii-cons, IsAscii-nil}
 use Rattle.httparse.specs.Grammar.{RequestHead, IsRequestHead, ReadsRequest, print_request, LineEnd, print_blank, lf, MayBecomeRequest, NeverHasRequest, EndsInTarget, IsField, IsToken, is_token_byte, is_uri_byte}
 use Rattle.httparse.proofs.GrammarLemmas.{request_unique, print_request-append}
 use Rattle.http_head.specs.Asked.{asked_in}
 use Rattle.http_head.specs.Fields.{values_of, joined, is_encoding, asks_close}
-use Rattle.http_conn.specs.Stream.{IsBadPlace, IsBad, IsHopeless, IsCut, IsRequest, is_mark}
-use Rattle.http_head.specs.Head.{HasHead, frame, fields_of}
+use Rattle.http_conn.specs.Stream.{HasBody, IsBadPlace, IsBad, IsHopeless, IsTooLong, IsCut, IsRequest, is_mark}
+use Rattle.http_head.specs.Head.{HasHead, IsRefused, frame, fields_of}
+use Rattle.http_head.specs.declared.fields.Framing.{Framing}
+use Rattle.body_read.specs.Chunks.{Outcome}
+use Rattle.body_read.specs.Body.{BodyIs}
+use Rattle.body_read.proofs.BodyLaws.{body_one}
 use Rattle.httparse.proofs.OpenLemmas.{letter_is_token}
 use Rattle.rest_codes.specs.declared.response.Reply.{Reply}
 use Rattle.rest_codes.specs.Errors.{refusal_of}
@@ -67,30 +71,54 @@ target_front front behind never ends =
     ]
 
 -- what two heads are read as, where they are one head
-pub size_same : (f : Result ℕ ℕ) (a b : ℕ) → f ≡ Ok a → f ≡ Ok b → a ≡ b
-size_same f a b is are = cc
+pub framing_same : (f : Result Framing ℕ) (a b : Framing) → f ≡ Ok a → f ≡ Ok b → a ≡ b
+framing_same f a b is are = cc
 
-pub code_same : (f : Result ℕ ℕ) (a b : ℕ) → f ≡ Err a → f ≡ Err b → a ≡ b
+pub code_same : (f : Result Framing ℕ) (a b : ℕ) → f ≡ Err a → f ≡ Err b → a ≡ b
 code_same f a b is are = cc
 
-pub not_both : (f : Result ℕ ℕ) (size code : ℕ) → f ≡ Ok size → f ≡ Err code → ⊥
-not_both f size code is are = absurd (cc)
+pub not_both : (f : Result Framing ℕ) (framing : Framing) (code : ℕ) → f ≡ Ok framing → f ≡ Err code → ⊥
+not_both f framing code is are = absurd (cc)
+
+-- one thing comes of the body behind a head
+pub one_outcome : (all : List ℕ) (x y : Outcome) → HasBody all x → HasBody all y → x ≡ y
+one_outcome all x y is are =
+    let same = request_unique all is.head are.head is.after are.after is.at.reads are.at.reads in
+    let framing : is.framing ≡ are.framing = framing_same (frame is.head) is.framing are.framing is.told (ap frame same.0 ∙ are.told) in
+    let there : BodyIs is.framing are.after y = subst (λ (f : Framing). BodyIs f are.after y) (sym framing) are.body in
+    body_one is.framing is.after x y is.body (subst (λ (l : List ℕ). BodyIs is.framing l y) (sym same.1) there)
+
+-- a body isn't refused with its head
+not_refused : (all : List ℕ) (x : Outcome) (code : ℕ) → HasBody all x → IsRefused all code → ⊥
+not_refused all x code is refused =
+    let same = request_unique all is.head refused.head is.after refused.after is.at.reads refused.at.reads in
+    not_both (frame is.head) is.framing code is.told (ap frame same.0 ∙ refused.why)
+
+-- a body has a head
+body_not_long : (all : List ℕ) (x : Outcome) → HasBody all x → IsTooLong all → ⊥
+body_not_long all x is long = long.none is.head is.after is.at
+
+body_not_lost : (all : List ℕ) (x : Outcome) → HasBody all x → IsHopeless all → ⊥
+body_not_lost all x is lost = lost.never lost.behind is.head is.after (subst (λ (l : List ℕ). ReadsRequest l is.head is.after) lost.parts is.at.reads)
+
+-- what two outcomes say, where they are one
+whole_parts : (b d r q : List ℕ) → Outcome.Whole b r ≡ Outcome.Whole d q → (b ≡ d) × (r ≡ q)
+whole_parts b d r q is = (cc, cc)
 
 -- the bytes fix the request
 pub one_request : (all : List ℕ) (r q : Request) (rest rest2 : List ℕ) → IsRequest all r rest → IsRequest all q rest2 → (r ≡ q) × (rest ≡ rest2)
 one_request all r q rest rest2 is are =
-    let same = request_unique all is.head are.head is.after are.after is.at.reads are.at.reads in
-    let long : length r.body ≡ length q.body = size_same (frame is.head) (length r.body) (length q.body) is.size (ap frame same.0 ∙ are.size) in
-    let both : r.body ++ rest ≡ q.body ++ rest2 = sym is.body ∙ same.1 ∙ are.body in
-    let body : r.body ≡ q.body = sym (take-append_seam r.body rest) ∙ ap (take (length r.body)) both ∙ ap (λ (n : ℕ). take n (q.body ++ rest2)) long ∙ take-append_seam q.body rest2 in
-    let left : rest ≡ rest2 = sym (drop-append_seam r.body rest) ∙ ap (drop (length r.body)) both ∙ ap (λ (n : ℕ). drop n (q.body ++ rest2)) long ∙ drop-append_seam q.body rest2 in
-    let method : r.method ≡ q.method = is.method ∙ ap (λ (h : RequestHead). h.method) same.0 ∙ sym are.method in
-    let path : r.path ≡ q.path = is.path ∙ ap (λ (h : RequestHead). before_first is_mark (asked_in h.target)) same.0 ∙ sym are.path in
-    let query : r.query ≡ q.query = is.query ∙ ap (λ (h : RequestHead). after_first is_mark (asked_in h.target)) same.0 ∙ sym are.query in
-    let accept : r.accept ≡ q.accept = is.accept ∙ ap (λ (h : RequestHead). joined (values_of (codes "accept") (fields_of h))) same.0 ∙ sym are.accept in
-    let kind : r.content_type ≡ q.content_type = is.content_type ∙ ap (λ (h : RequestHead). joined (values_of (codes "content-type") (fields_of h))) same.0 ∙ sym are.content_type in
-    let coded : r.encoded ≡ q.encoded = is.encoded ∙ ap (λ (h : RequestHead). list_any is_encoding (values_of (codes "content-encoding") (fields_of h))) same.0 ∙ sym are.encoded in
-    let closes : r.close ≡ q.close = is.close ∙ ap (λ (h : RequestHead). asks_close h.minor (fields_of h)) same.0 ∙ sym are.close in (
+    let same = request_unique all is.whole.head are.whole.head is.whole.after are.whole.after is.whole.at.reads are.whole.at.reads in
+    let both = whole_parts r.body q.body rest rest2 (one_outcome all (Outcome.Whole r.body rest) (Outcome.Whole q.body rest2) is.whole are.whole) in
+    let method : r.method ≡ q.method = is.asks.method ∙ ap (λ (h : RequestHead). h.method) same.0 ∙ sym are.asks.method in
+    let path : r.path ≡ q.path = is.asks.path ∙ ap (λ (h : RequestHead). before_first is_mark (asked_in h.target)) same.0 ∙ sym are.asks.path in
+    let query : r.query ≡ q.query = is.asks.query ∙ ap (λ (h : RequestHead). after_first is_mark (asked_in h.target)) same.0 ∙ sym are.asks.query in
+    let accept : r.accept ≡ q.accept = is.asks.accept ∙ ap (λ (h : RequestHead). joined (values_of (codes "accept") (fields_of h))) same.0 ∙ sym are.asks.accept in
+    let kind : r.content_type ≡ q.content_type =
+    is.asks.content_type ∙ ap (λ (h : RequestHead). joined (values_of (codes "content-type") (fields_of h))) same.0 ∙ sym are.asks.content_type in
+    let coded : r.encoded ≡ q.encoded =
+    is.asks.encoded ∙ ap (λ (h : RequestHead). list_any is_encoding (values_of (codes "content-encoding") (fields_of h))) same.0 ∙ sym are.asks.encoded in
+    let closes : r.close ≡ q.close = is.asks.close ∙ ap (λ (h : RequestHead). asks_close h.minor (fields_of h)) same.0 ∙ sym are.asks.close in (
       λ i. record {
         method = method i;
         path = path i;
@@ -99,9 +127,9 @@ one_request all r q rest rest2 is are =
         content_type = kind i;
         encoded = coded i;
         close = closes i;
-        body = body i;
+        body = both.0 i;
       },
-      left,
+      both.1,
     )
 
 -- what is lost can't become a head
@@ -114,31 +142,28 @@ lost_may_not all lost (inr ends) =
 
 -- a place has one of the three, and some byte
 pub no_bad_request : (all : List ℕ) (r : Request) (rest : List ℕ) (code : ℕ) → IsRequest all r rest → IsBadPlace all code → ⊥
-no_bad_request all r rest code is (inl refused) =
-    let same = request_unique all is.head refused.head is.after refused.after is.at.reads refused.at.reads in
-    not_both (frame is.head) (length r.body) code is.size (ap frame same.0 ∙ refused.why)
-no_bad_request all r rest code is (inr (inl full)) = full.0.none is.head is.after is.at
-no_bad_request all r rest code is (inr (inr lost)) =
-    lost.0.never lost.0.behind is.head is.after (subst (λ (l : List ℕ). ReadsRequest l is.head is.after) lost.0.parts is.at.reads)
+no_bad_request all r rest code is (inl refused) = not_refused all (Outcome.Whole r.body rest) code is.whole refused
+no_bad_request all r rest code is (inr (inl full)) = body_not_long all (Outcome.Whole r.body rest) is.whole full.0
+no_bad_request all r rest code is (inr (inr (inl lost))) = body_not_lost all (Outcome.Whole r.body rest) is.whole lost.0
+no_bad_request all r rest code is (inr (inr (inr body))) = absurd (cc (one_outcome all (Outcome.Whole r.body rest) (Outcome.Refused code) is.whole body))
 
 pub no_cut_request : (all : List ℕ) (r : Request) (rest : List ℕ) → IsRequest all r rest → IsCut all → ⊥
-no_cut_request all r rest is (inl body) =
-    let same = request_unique all is.head body.head is.after body.after is.at.reads body.at.reads in
-    let size : length r.body ≡ body.size = size_same (frame is.head) (length r.body) body.size is.size (ap frame same.0 ∙ body.told) in
-    let long : length body.after ≡ length r.body + length rest = ap length (sym same.1) ∙ ap length is.body ∙ length-append r.body rest in
-    absurd (omega (arith, size, long, body.cut))
-no_cut_request all r rest is (inr head) = head.none is.head is.after is.at
+no_cut_request all r rest is (inl body) = absurd (cc (one_outcome all (Outcome.Whole r.body rest) Outcome.Short is.whole body))
+no_cut_request all r rest is (inr head) = head.none is.whole.head is.whole.after is.whole.at
 
 pub no_bad_cut : (all : List ℕ) (code : ℕ) → IsBadPlace all code → IsCut all → ⊥
-no_bad_cut all code (inl refused) (inl body) =
-    let same = request_unique all refused.head body.head refused.after body.after refused.at.reads body.at.reads in
-    not_both (frame refused.head) body.size code (ap frame same.0 ∙ body.told) refused.why
+no_bad_cut all code (inl refused) (inl body) = not_refused all Outcome.Short code body refused
 no_bad_cut all code (inl refused) (inr head) = head.none refused.head refused.after refused.at
-no_bad_cut all code (inr (inl full)) (inl body) = full.0.none body.head body.after body.at
+no_bad_cut all code (inr (inl full)) (inl body) = body_not_long all Outcome.Short body full.0
 no_bad_cut all code (inr (inl full)) (inr head) = absurd (omega (arith, full.0.long, head.short))
-no_bad_cut all code (inr (inr lost)) (inl body) =
-    lost.0.never lost.0.behind body.head body.after (subst (λ (l : List ℕ). ReadsRequest l body.head body.after) lost.0.parts body.at.reads)
-no_bad_cut all code (inr (inr lost)) (inr head) = lost_may_not all lost.0 head.may
+no_bad_cut all code (inr (inr (inl lost))) (inl body) = body_not_lost all Outcome.Short body lost.0
+no_bad_cut all code (inr (inr (inl lost))) (inr head) = lost_may_not all lost.0 head.may
+no_bad_cut all code (inr (inr (inr bad))) (inl body) = absurd (cc (one_outcome all (Outcome.Refused code) Outcome.Short bad body))
+no_bad_cut all code (inr (inr (inr bad))) (inr head) = head.none bad.head bad.after bad.at
+
+-- what two refusals say, where they are one
+code_parts : (a b : ℕ) → Outcome.Refused a ≡ Outcome.Refused b → a ≡ b
+code_parts a b is = cc
 
 -- a place is refused with one status
 pub one_status : (all : List ℕ) (a b : ℕ) → IsBadPlace all a → IsBadPlace all b → a ≡ b
@@ -146,15 +171,22 @@ one_status all a b (inl refused) (inl other) =
     let same = request_unique all refused.head other.head refused.after other.after refused.at.reads other.at.reads in
     code_same (frame refused.head) a b refused.why (ap frame same.0 ∙ other.why)
 one_status all a b (inl refused) (inr (inl full)) = absurd (full.0.none refused.head refused.after refused.at)
-one_status all a b (inl refused) (inr (inr lost)) =
+one_status all a b (inl refused) (inr (inr (inl lost))) =
     absurd (lost.0.never lost.0.behind refused.head refused.after (subst (λ (l : List ℕ). ReadsRequest l refused.head refused.after) lost.0.parts refused.at.reads))
+one_status all a b (inl refused) (inr (inr (inr body))) = absurd (not_refused all (Outcome.Refused b) a body refused)
 one_status all a b (inr (inl full)) (inl refused) = absurd (full.0.none refused.head refused.after refused.at)
 one_status all a b (inr (inl full)) (inr (inl other)) = full.1 ∙ sym other.1
-one_status all a b (inr (inl full)) (inr (inr lost)) = absurd (full.0.hope lost.0)
-one_status all a b (inr (inr lost)) (inl refused) =
+one_status all a b (inr (inl full)) (inr (inr (inl lost))) = absurd (full.0.hope lost.0)
+one_status all a b (inr (inl full)) (inr (inr (inr body))) = absurd (body_not_long all (Outcome.Refused b) body full.0)
+one_status all a b (inr (inr (inl lost))) (inl refused) =
     absurd (lost.0.never lost.0.behind refused.head refused.after (subst (λ (l : List ℕ). ReadsRequest l refused.head refused.after) lost.0.parts refused.at.reads))
-one_status all a b (inr (inr lost)) (inr (inl full)) = absurd (full.0.hope lost.0)
-one_status all a b (inr (inr lost)) (inr (inr other)) = lost.1 ∙ sym other.1
+one_status all a b (inr (inr (inl lost))) (inr (inl full)) = absurd (full.0.hope lost.0)
+one_status all a b (inr (inr (inl lost))) (inr (inr (inl other))) = lost.1 ∙ sym other.1
+one_status all a b (inr (inr (inl lost))) (inr (inr (inr body))) = absurd (body_not_lost all (Outcome.Refused b) body lost.0)
+one_status all a b (inr (inr (inr body))) (inl refused) = absurd (not_refused all (Outcome.Refused a) b body refused)
+one_status all a b (inr (inr (inr body))) (inr (inl full)) = absurd (body_not_long all (Outcome.Refused a) body full.0)
+one_status all a b (inr (inr (inr body))) (inr (inr (inl lost))) = absurd (body_not_lost all (Outcome.Refused a) body lost.0)
+one_status all a b (inr (inr (inr body))) (inr (inr (inr other))) = code_parts a b (one_outcome all (Outcome.Refused a) (Outcome.Refused b) body other)
 
 -- a place is refused with one reply
 pub one_reply : (all : List ℕ) (a b : Reply) → IsBad all a → IsBad all b → a ≡ b
@@ -173,7 +205,8 @@ no_head_of_nothing head after at =
     absurd (omega (arith, some, simp length-append at e))
 
 pub no_request_of_nothing : (all : List ℕ) (r : Request) (rest : List ℕ) → all ≡ [] → IsRequest all r rest → ⊥
-no_request_of_nothing all r rest none is = no_head_of_nothing is.head is.after (subst (λ (l : List ℕ). HasHead l is.head is.after) none is.at)
+no_request_of_nothing all r rest none is =
+    no_head_of_nothing is.whole.head is.whole.after (subst (λ (l : List ℕ). HasHead l is.whole.head is.whole.after) none is.whole.at)
 
 pub no_cut_of_nothing : (all : List ℕ) → all ≡ [] → IsCut all → ⊥
 no_cut_of_nothing all none (inl body) = no_head_of_nothing body.head body.after (subst (λ (l : List ℕ). HasHead l body.head body.after) none body.at)
@@ -189,7 +222,9 @@ nothing_may never =
 pub no_bad_of_nothing : (all : List ℕ) (code : ℕ) → all ≡ [] → IsBadPlace all code → ⊥
 no_bad_of_nothing all code none (inl refused) = no_head_of_nothing refused.head refused.after (subst (λ (l : List ℕ). HasHead l refused.head refused.after) none refused.at)
 no_bad_of_nothing all code none (inr (inl full)) = absurd (omega (arith, ap (length {A = ℕ}) none, full.0.long))
-no_bad_of_nothing all code none (inr (inr lost)) =
+no_bad_of_nothing all code none (inr (inr (inr body))) =
+    no_head_of_nothing body.head body.after (subst (λ (l : List ℕ). HasHead l body.head body.after) none body.at)
+no_bad_of_nothing all code none (inr (inr (inl lost))) =
     let front : lost.0.front ≡ [] = empty_front lost.0.front lost.0.behind (sym none ∙ lost.0.parts) in
     nothing_may (subst (λ (l : List ℕ). NeverHasRequest l) front lost.0.never)
 

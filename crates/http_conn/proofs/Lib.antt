@@ -7,3 +7,4 @@ pub mod StreamLaw
 pub mod BeginLemmas
 pub mod PromptLemmas
 pub mod PatientLemmas
+pub mod BodyLemmas

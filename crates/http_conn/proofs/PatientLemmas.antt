@@ -1,5 +1,5 @@
 -- What was held when the last of several reads began.
-use Rattle.std.proofs.Common.{◌≡◌, ℕ, ◌+◌, ◌<◌, List, [], ◌∷◌, ◌++◌, length, drop, false, Option, refl, ap, sym, subst, ◌∙◌, arith, append_assoc, inl, inr}
+use Rattle.std.proofs.Common.{◌≡◌, ℕ, ◌<◌, List, [], ◌∷◌, ◌++◌, length, drop, false, Option, refl, ap, sym, subst, ◌∙◌, arith, append_assoc, inl, inr}
 use Rattle.std.specs.Prelude.{◌⊎◌, ◌||◌}
 use Rattle.std.specs.List.{list_any}
 use Rattle.std.proofs.lemmas.List.{append-nil}
@@ -8,11 +8,13 @@ use Rattle.std.proofs.Math.Seq.{drop-append_seam}
 use Rattle.httparse.specs.Grammar.{HasNoRequest, MayBecomeRequest}
 use Rattle.httparse.specs.declared.spans.HeaderSpan.{HeaderSpan}
 use Rattle.http_conn.specs.Told.{Comes, StillComes, LastRead}
-use Rattle.http_conn.specs.Next.{IsHeadless, IsInHead, IsInLine, IsShort, NeedsMore, is_line_end}
+use Rattle.http_conn.specs.Next.{IsHeadless, IsInHead, IsInLine, NeedsMore, is_line_end}
+use Rattle.http_conn.specs.Body.{IsCutAt}
+use Rattle.body_read.specs.Chunks.{Outcome}
 use Rattle.http_head.specs.Head.{max_head}
 use Rattle.http_head.specs.Parts.{IsHead}
 use Rattle.http_head.specs.declared.verdict.Head.{Head}
-use Rattle.http_conn.proofs.StreamLemmas.{IsHead-behind, cut_in_body}
+use Rattle.http_conn.proofs.StreamLemmas.{IsHead-behind, body_held}
 use Rattle.http_head.proofs.HeadLemmas.{no_request_no_head}
 
 -- nothing was read
@@ -39,6 +41,16 @@ read_on {S = S} left asked start held first mid last Is Was before comes behind 
             | inl none ↦ inl (same ∙ none)
             | inr was ↦ inr (was.0, subst (λ (s : S). Comes was.0 (asked s) all) (sym same) was.1, was.2)
           ]
+      | inr was ↦ inr (was.0, was.1, enough was.0 was.2)
+    ]
+
+-- a fact that is enough
+pub read_weaker : {S : Type 0} (left asked : S → Option (List ℕ)) (held : List ℕ) (old new : S) (Is Was : List ℕ → Type 0)
+    → LastRead left asked held old new Is → ((l : List ℕ) → Is l → Was l) → LastRead left asked held old new Was
+unfolding LastRead
+read_weaker left asked held old new Is Was before enough = λ all comes.
+    elim (before all comes) [
+      | inl same ↦ inl same
       | inr was ↦ inr (was.0, was.1, enough was.0 was.2)
     ]
 
@@ -80,14 +92,14 @@ head_read_on left asked start held first mid last before comes behind waits =
     read_on left asked start held first mid last (IsInHead held) NeedsMore before comes behind (λ l line. inr ((held, waits, line.0), line.1))
 
 -- a body that isn't whole
-short_waits : (start held : List ℕ) (headers : List HeaderSpan) (h : Head) → IsHead start headers h → IsShort start (h.spans.len + h.size) held → NeedsMore held
-short_waits start held headers h head short =
-    let here : IsHead held headers h = IsHead-behind start held headers h head short.0 in
-    inl (inr (cut_in_body held headers h here short.1))
+cut_waits : (start held : List ℕ) (headers : List HeaderSpan) (h : Head) → IsHead start headers h → IsCutAt h.framing h.spans.len start held → NeedsMore held
+cut_waits start held headers h head cut =
+    let here : IsHead held headers h = IsHead-behind start held headers h head cut.0 in
+    inl (inr (inl (body_held held headers h Outcome.Short here cut.1)))
 
 -- reads behind a head, up to the end of the body
 pub body_read_on : {S : Type 0} (left asked : S → Option (List ℕ)) (start held : List ℕ) (headers : List HeaderSpan) (h : Head) (first mid last : S)
     → LastRead left asked start first mid NeedsMore → StillComes start (left first) held (left mid)
-    → IsHead held headers h → LastRead left asked held mid last (IsShort held (h.spans.len + h.size)) → LastRead left asked start first last NeedsMore
+    → IsHead held headers h → LastRead left asked held mid last (IsCutAt h.framing h.spans.len held) → LastRead left asked start first last NeedsMore
 body_read_on left asked start held headers h first mid last before comes head behind =
-    read_on left asked start held first mid last (IsShort held (h.spans.len + h.size)) NeedsMore before comes behind (λ l short. short_waits held l headers h head short)
+    read_on left asked start held first mid last (IsCutAt h.framing h.spans.len held) NeedsMore before comes behind (λ l short. cut_waits held l headers h head short)

@@ -1,14 +1,17 @@
 -- What holds of the bytes at hand holds of all that is still to come.
-use Rattle.std.proofs.Common.{◌≡◌, ℕ, ◌+◌, ◌-◌, ◌<◌, ◌≤◌, List, [], ◌++◌, length, take, drop, Option, None, Some, refl, ap, sym, subst, ◌∙◌, arith, append_assoc, length-append, length-drop, length-take, inl, inr}
+use Rattle.std.proofs.Common.{◌≡◌, ℕ, ◌+◌, ◌-◌, ◌<◌, ◌≤◌, List, [], ◌++◌, length, take, drop, Option, None, Some, refl, ap, sym, subst, ◌∙◌, arith, append_assoc, length-append, length-take, inl, inr}
 use Rattle.std.proofs.lemmas.List.{take-append-drop, append-nil}
 use Rattle.std.specs.Io.KnownBytes.{prepend_known, IsAtEnd}
-use Rattle.httparse.specs.Grammar.{MayBecomeRequest}
+use Rattle.httparse.specs.Grammar.{MayBecomeRequest, RequestHead}
 use Rattle.httparse.specs.declared.spans.HeaderSpan.{HeaderSpan}
 use Rattle.http_head.specs.Head.{HasNoHead, IsRefused, max_head}
 use Rattle.http_head.specs.Parts.{IsHead, IsLost}
 use Rattle.http_head.specs.declared.verdict.Head.{Head}
 use Rattle.http_head.proofs.HeadLemmas.{HasHead-append, IsHead-append, IsRefused-append, head_of, no_head-append}
-use Rattle.http_conn.specs.Stream.{IsBadPlace, IsHopeless, IsCut, IsRequest}
+use Rattle.body_read.specs.Chunks.{Outcome}
+use Rattle.body_read.specs.Body.{BodyIs}
+use Rattle.body_read.proofs.BodyLaws.{body_whole-append, body_refused-append}
+use Rattle.http_conn.specs.Stream.{Asks, HasBody, IsBadPlace, IsHopeless, IsRequest}
 use Rattle.http_conn.specs.Told.{Comes}
 use Rattle.http_conn.specs.declared.request.Request.{Request}
 use Rattle.http_conn.proofs.LawLemmas.{front_of, lost_may_not}
@@ -47,6 +50,17 @@ hopeless_front held rest long is = record {
   decided = is.decided;
 }
 
+-- a body that is refused is so whatever follows
+refused_body-append : (buf more : List ℕ) (code : ℕ) → HasBody buf (Outcome.Refused code) → HasBody (buf ++ more) (Outcome.Refused code)
+refused_body-append buf more code is = record {
+  head = is.head;
+  after = is.after ++ more;
+  framing = is.framing;
+  at = HasHead-append buf more is.head is.after is.at;
+  told = is.told;
+  body = body_refused-append is.framing is.after more code is.body;
+}
+
 -- a bad place stays one, whatever follows
 pub bad-append : (held rest : List ℕ) (code : ℕ) → IsBadPlace held code → IsBadPlace (held ++ rest) code
 bad-append held rest code (inl found) = inl (IsRefused-append held rest code found)
@@ -59,7 +73,8 @@ bad-append held rest code (inr (inl full)) =
       },
       full.1,
     ))
-bad-append held rest code (inr (inr hopeless)) = inr (inr (IsHopeless-append held rest hopeless.0, hopeless.1))
+bad-append held rest code (inr (inr (inl hopeless))) = inr (inr (inl (IsHopeless-append held rest hopeless.0, hopeless.1)))
+bad-append held rest code (inr (inr (inr body))) = inr (inr (inr (refused_body-append held rest code body)))
 
 -- the same, refused
 pub full_refused : (held : List ℕ) (code : ℕ) → IsRefused (take max_head held) code → IsBadPlace held code
@@ -68,7 +83,7 @@ full_refused held code refused = inl (subst (λ (l : List ℕ). IsRefused l code
 -- what is lost, and shorter than the longest head
 pub lost_bad : (held : List ℕ) → length held < max_head → IsLost held → IsBadPlace held 400
 lost_bad held short lost =
-    inr (inr (record { front = held; behind = []; parts = sym (append-nil held); short = short; never = lost.0; decided = lost.1 }, refl))
+    inr (inr (inl (record { front = held; behind = []; parts = sym (append-nil held); short = short; never = lost.0; decided = lost.1 }, refl)))
 
 -- a front that is lost
 pub front_lost : (held : List ℕ) (n : ℕ) → n < max_head → IsLost (take n held) → IsBadPlace held 400
@@ -92,34 +107,35 @@ front_open held n size long none may =
 
 pub IsRequest-append : (buf rest more : List ℕ) (r : Request) → IsRequest buf r rest → IsRequest (buf ++ more) r (rest ++ more)
 IsRequest-append buf rest more r is = record {
-  head = is.head;
-  after = is.after ++ more;
-  at = HasHead-append buf more is.head is.after is.at;
-  size = is.size;
-  body = ap (λ (l : List ℕ). l ++ more) is.body ∙ append_assoc r.body rest more;
-  method = is.method;
-  path = is.path;
-  query = is.query;
-  accept = is.accept;
-  content_type = is.content_type;
-  encoded = is.encoded;
-  close = is.close;
+  whole = record {
+    head = is.whole.head;
+    after = is.whole.after ++ more;
+    framing = is.whole.framing;
+    at = HasHead-append buf more is.whole.head is.whole.after is.whole.at;
+    told = is.whole.told;
+    body = body_whole-append is.whole.framing is.whole.after more r.body rest is.whole.body;
+  };
+  asks = is.asks;
 }
 
 -- a head that was read stays one behind which more is held
 pub IsHead-behind : (old new : List ℕ) (headers : List HeaderSpan) (h : Head) → IsHead old headers h → (more : List ℕ) × (new ≡ old ++ more) → IsHead new headers h
 IsHead-behind old new headers h is behind = subst (λ (l : List ℕ). IsHead l headers h) (sym behind.1) (IsHead-append old behind.0 headers h is)
 
--- bytes that end inside the body
-pub cut_in_body : (held : List ℕ) (headers : List HeaderSpan) (h : Head) → IsHead held headers h → length held < h.spans.len + h.size → IsCut held
-cut_in_body held headers h is short = inl (record {
+-- what a request takes of a head it takes of the same head
+pub asks_same : (r : Request) (h k : RequestHead) → h ≡ k → Asks h r → Asks k r
+asks_same r h k same is = subst (λ (x : RequestHead). Asks x r) same is
+
+-- what comes of the body behind a head that is held
+pub body_held : (held : List ℕ) (headers : List HeaderSpan) (h : Head) (x : Outcome) → IsHead held headers h → BodyIs h.framing (drop h.spans.len held) x → HasBody held x
+body_held held headers h x is body = record {
   head = is.head;
   after = drop h.spans.len held;
-  size = h.size;
+  framing = h.framing;
   at = head_of held headers h is;
-  told = is.size;
-  cut = omega (arith, is.within.section.len_fits, length-drop h.spans.len held);
-})
+  told = is.framed;
+  body = body;
+}
 
 -- what was held and cut
 pub comes_cut : (held cut rest all : List ℕ) (left : Option (List ℕ)) → left ≡ Some rest → Comes cut left (cut ++ rest)

@@ -7,6 +7,9 @@ use Rattle.rest_codes.specs.Errors.{refusal_of}
 use Rattle.http_head.specs.Asked.{asked_in}
 use Rattle.http_head.specs.Fields.{values_of, joined, is_encoding, asks_close}
 use Rattle.http_head.specs.Head.{max_head, HasHead, HasNoHead, IsRefused, fields_of, frame}
+use Rattle.http_head.specs.declared.fields.Framing.{Framing}
+use Rattle.body_read.specs.Chunks.{Outcome}
+use Rattle.body_read.specs.Body.{BodyIs}
 use Rattle.http_conn.specs.declared.request.Request.{Request}
 
 -- the most requests of a connection
@@ -17,13 +20,17 @@ max_requests = 100000
 abbrev pub is_mark : ℕ → Bool
 is_mark b = b == 63
 
--- the bytes begin with this request: its head, and the body of the size that the head tells
-pub record IsRequest (bytes : List ℕ) (request : Request) (rest : List ℕ) : Type 0 where
+-- the bytes begin with a head that is served, and this comes of the body that the head tells
+pub record HasBody (bytes : List ℕ) (outcome : Outcome) : Type 0 where
   pub head : RequestHead
   pub after : List ℕ
+  pub framing : Framing
   pub at : HasHead bytes head after
-  pub size : frame head ≡ Ok (length request.body)
-  pub body : after ≡ request.body ++ rest
+  pub told : frame head ≡ Ok framing
+  pub body : BodyIs framing after outcome
+
+-- what a request takes of its head
+pub record Asks (head : RequestHead) (request : Request) : Type 0 where
   pub method : request.method ≡ head.method
   pub path : request.path ≡ before_first is_mark (asked_in head.target)
   pub query : request.query ≡ after_first is_mark (asked_in head.target)
@@ -31,6 +38,11 @@ pub record IsRequest (bytes : List ℕ) (request : Request) (rest : List ℕ) : 
   pub content_type : request.content_type ≡ joined (values_of (codes "content-type") (fields_of head))
   pub encoded : request.encoded ≡ list_any is_encoding (values_of (codes "content-encoding") (fields_of head))
   pub close : request.close ≡ asks_close head.minor (fields_of head)
+
+-- the bytes begin with this request: its head, and its body whole
+pub record IsRequest (bytes : List ℕ) (request : Request) (rest : List ℕ) : Type 0 where
+  pub whole : HasBody bytes (Outcome.Whole request.body rest)
+  pub asks : Asks whole.head request
 
 -- a front of the bytes shorter than the longest head can't become a head, whatever follows.
 -- A front that ends inside a target decides nothing.
@@ -49,22 +61,18 @@ pub record IsTooLong (bytes : List ℕ) : Type 0 where
   pub hope : IsHopeless bytes → ⊥
 
 -- No request can stand here, and this is the status: that of a whole head that is refused, 431 where no head ends in as many bytes
--- as one may have, and 400 where the bytes can't become a head.
+-- as one may have, 400 where the bytes can't become a head, and that of a body that is refused.
 abbrev pub IsBadPlace : List ℕ → ℕ → Type 0
-IsBadPlace bytes code = IsRefused bytes code ⊎ ((IsTooLong bytes × (code ≡ 431)) ⊎ (IsHopeless bytes × (code ≡ 400)))
+IsBadPlace bytes code =
+    IsRefused bytes code ⊎ ((IsTooLong bytes × (code ≡ 431)) ⊎ ((IsHopeless bytes × (code ≡ 400)) ⊎ HasBody bytes (Outcome.Refused code)))
 
 -- the place is bad, and is answered so
 abbrev pub IsBad : List ℕ → Reply → Type 0
 IsBad bytes reply = (code : ℕ) × IsBadPlace bytes code × (reply ≡ refusal_of code)
 
 -- the bytes end inside the body of a request
-pub record IsCutBody (bytes : List ℕ) : Type 0 where
-  pub head : RequestHead
-  pub after : List ℕ
-  pub size : ℕ
-  pub at : HasHead bytes head after
-  pub told : frame head ≡ Ok size
-  pub cut : length after < size
+abbrev pub IsCutBody : List ℕ → Type 0
+IsCutBody bytes = HasBody bytes Outcome.Short
 
 -- the bytes end inside a head that may still become one
 pub record IsCutHead (bytes : List ℕ) : Type 0 where

@@ -4,13 +4,14 @@ ghost use Rattle.gate_io.specs.Counts.{Rose};
 ghost use Rattle.rest_codes.specs.Errors.{refusal_of};
 ghost use Rattle.std.specs.List.{list_any};
 ghost use Rattle.http_conn.specs.Told.{Comes, StillComes, LastRead};
-ghost use Rattle.http_conn.specs.Next.{Gives, IsWaiting, IsInHead, IsShort, NeedsMore, is_line_end, is_last};
+ghost use Rattle.http_conn.specs.Next.{Gives, IsWaiting, IsInHead, NeedsMore, is_line_end, is_last};
 ghost use Rattle.http_conn.specs.Stream.{IsRequest, IsBadPlace};
 ghost use Rattle.http_head.specs.Head.{max_head, HasNoHead};
 ghost use Rattle.http_conn.specs.declared.request.Request.{Request as RequestOf};
 ghost use Rattle.http_head.specs.Parts.{max_spans};
 ghost use Rattle.http_conn.specs.Front.{FrontIs};
 
+use crate::body::{Found, read_body};
 use crate::buffer::Buffer;
 use crate::whole::make_request;
 use crate::{ConnNo, Next};
@@ -197,32 +198,6 @@ fn read_head<S: Source>(
     Ok(judge_full(held.front(), headers))
 }
 
-/// Reads until so many bytes are held. False where the input ends before.
-fn fill_to<S: Source>(held: &mut Buffer, total: usize, source: &mut S) -> Result<bool, ConnNo>
-    ensures same { OnOk result (StillComes held.old (S.left source.old) held.new (S.left source.new)) }
-    ensures behind { OnOk result ((more : List ℕ) × (held.new ≡ held.old ++ more)) }
-    ensures enough { result ≡ Ok true → total ≤ length held.new }
-    ensures end { result ≡ Ok false → (length held.new < total) × IsAtEnd (S.left source.new) }
-    ensures prompt { total ≤ length held.old → source.new ≡ source.old }
-    ensures patient { LastRead S.left S.asked held.old source.old source.new (IsShort held.old total) }
-    ensures lost { result ≡ Err ConnNo.ReadFault → ((more : List ℕ)
-        × (held.new ≡ held.old ++ more)) × (length held.new < total)
-        × (StillComes held.old (S.left source.old) held.new (S.left source.new)) }
-    ensures cause { result ≡ Err ConnNo.ReadFault
-        → Rose (S.faults source.old) (S.faults source.new) }
-    ensures no_write { (n : ℕ) → result ≢ Err (ConnNo.WriteFault n) }
-    ensures counts { S.faults source.old ≤ S.faults source.new }
-    ensures beside { S.beside source.old source.new }
-{
-    held.make_room(total)?;
-    while held.len() < total {
-        if !held.fill(source)? {
-            return Ok(false);
-        }
-    }
-    Ok(true)
-}
-
 /// The answer at a bad place.
 fn bad(alloc: Global, code: u32) -> Result<Next, ConnNo>
     ensures value { IfOk result (λ next. next ≡ Next.Bad (refusal_of code)) }
@@ -262,13 +237,16 @@ fn read_request<S: Source>(
         Front::Cut => return Ok(Next::CutShort),
         Front::End => return Ok(Next::End),
     };
-    let total = head.spans.len + head.size;
-    if !fill_to(held, total, source)? {
-        return Ok(Next::CutShort);
-    }
     let request = make_request(alloc, held.front(), headers, head)?;
-    held.take(total);
-    Ok(Next::Ready(request))
+    match read_body(alloc, held, head, headers, source) {
+        Ok(Found::Whole(body, end)) => {
+            held.take(end);
+            Ok(Next::Ready(request.with_body(body)))
+        }
+        Ok(Found::Bad(code)) => bad(alloc, code),
+        Ok(Found::Cut) => Ok(Next::CutShort),
+        Err(no) => Err(no),
+    }
 }
 
 impl Connection {

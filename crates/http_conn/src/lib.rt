@@ -1,6 +1,7 @@
 //! The requests of a stream of bytes, read in any pieces, and the bytes that answer them.
 #![tactic(auto)]
 
+mod body;
 mod buffer;
 mod connection;
 mod law;

@@ -1,6 +1,8 @@
-ghost use Rattle.std.specs.Prelude.{◌≡◌, ◌≤◌, ◌+◌, drop, length, IfOk};
+ghost use Rattle.std.specs.Prelude.{◌≡◌, ℕ, List, IfOk};
 ghost use Rattle.std.specs.List.{before_first, after_first};
-ghost use Rattle.http_conn.specs.Stream.{IsRequest, is_mark};
+ghost use Rattle.http_conn.specs.Stream.{Asks, is_mark};
+ghost use Rattle.httparse.specs.Grammar.{RequestHead};
+ghost use Rattle.http_head.specs.Head.{HasHead};
 ghost use Rattle.http_head.specs.Parts.{IsHead};
 
 use crate::Request;
@@ -31,16 +33,15 @@ fn method_of(alloc: Global, bytes: &[u8]) -> Result<Method, AllocError>
     }
 }
 
-/// The request whose head and body stand at the front of the bytes.
+/// What a request takes of the head at the front of the bytes, with an empty body.
 pub(crate) fn make_request(
     alloc: Global,
     buf: &[u8],
     headers: &[HeaderSpan],
     head: Head,
 ) -> Result<Request, AllocError>
-    requires head { IsHead buf.now headers.now head }
-    requires whole { head.spans.len + head.size ≤ length buf.now }
-    ensures { IfOk result (λ request. IsRequest buf.now request (drop (head.spans.len + head.size) buf.now)) }
+    requires { IsHead buf.now headers.now head }
+    ensures { IfOk result (λ request. (tree : RequestHead) (after : List ℕ) → HasHead buf.now tree after → Asks tree request) }
 {
     let spans = head.spans;
     let fields = &headers[..spans.headers];
@@ -50,7 +51,6 @@ pub(crate) fn make_request(
     let query = Text::from_str(alloc, query)?;
     let accept = joined_values(alloc, buf, fields, b"accept")?;
     let content_type = joined_values(alloc, buf, fields, b"content-type")?;
-    let body = Items::from_slice(alloc, &buf[spans.len..spans.len + head.size])?;
     Ok(Request {
         method,
         path,
@@ -59,6 +59,16 @@ pub(crate) fn make_request(
         content_type,
         encoded: is_encoded(buf, fields),
         close: asks_close(buf, fields, spans.version),
-        body,
+        body: Items::from_vec(Vec::new(alloc)),
     })
+}
+
+impl Request {
+    /// The same request with this body.
+    pub(crate) fn with_body(self, body: Items<u8>) -> Request
+        ensures asks { (tree : RequestHead) → Asks tree self → Asks tree result }
+        ensures body { result.body ≡ body }
+    {
+        Request { body, ..self }
+    }
 }

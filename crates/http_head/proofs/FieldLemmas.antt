@@ -15,6 +15,7 @@ use Rattle.std.specs.List.{list_any}
 use Rattle.http_head.specs.Asked.{is_served}
 use Rattle.http_head.specs.Fields.{values_of, is_named, joined_from, frame_of, max_fields, is_hosted}
 use Rattle.http_head.specs.Parts.{JoinedIs}
+use Rattle.http_head.specs.declared.fields.Framing.{Framing}
 
 -- a digit's value
 pub digit_of : (c : ℕ) → is_ascii_digit c ≡ true → digit_value c ≡ c - 48
@@ -87,13 +88,13 @@ codings_more p name buf headers i d below =
     ∙ list_any-append p (values_of name (map (header_bytes buf) (take i headers))) (values_of name (header_bytes buf (get_or headers i d) ∷ []))
 
 -- a size behind three tests says that the third was passed
-third_passed : (a b c : Bool) (rest : Result ℕ ℕ) (size : ℕ) → (if a then Err 431 else if not b then Err 400 else if not c then Err 400 else rest) ≡ Ok size → c ≡ true
+third_passed : (a b c : Bool) (rest : Result Framing ℕ) (size : Framing) → (if a then Err 431 else if not b then Err 400 else if not c then Err 400 else rest) ≡ Ok size → c ≡ true
 third_passed a b true rest size is = refl
 third_passed true b false rest size is = absurd (cc is)
 third_passed false true false rest size is = absurd (cc is)
 third_passed false false false rest size is = absurd (cc is)
 
 -- the target of a head that isn't refused is one that is served
-pub framed_target : (minor : ℕ) (target : List ℕ) (fields : List (List ℕ × List ℕ)) (size : ℕ) → frame_of minor target fields ≡ Ok size → is_served target ≡ true
+pub framed_target : (minor : ℕ) (target : List ℕ) (fields : List (List ℕ × List ℕ)) (size : Framing) → frame_of minor target fields ≡ Ok size → is_served target ≡ true
 unfolding frame_of
 framed_target minor target fields size is = third_passed (nat_lt max_fields (length fields)) (is_hosted minor fields) (is_served target) _ size is

@@ -76,8 +76,8 @@ IsHead-append buf more headers h is = record {
     };
   };
   short = is.short;
-  size = is.size;
-  size_fits = is.size_fits;
+  framed = is.framed;
+  fits = is.fits;
 }
 
 -- the head that the spans cover

@@ -18,7 +18,7 @@ field_long : (f : Field) → IsField f → 3 ≤ length (print_field f)
 field_long f is =
     omega (arith, is.name.0, end_long f.end, length-append (f.name ++ 58 ∷ f.raw) (print_end f.end), length-append f.name (58 ∷ f.raw))
 
-fields_long : (fields : List Field) → All IsField fields → 3 * length fields ≤ length (flat_map print_field fields)
+pub fields_long : (fields : List Field) → All IsField fields → 3 * length fields ≤ length (flat_map print_field fields)
 fields_long [] are = omega arith
 fields_long (f ∷ fields) are =
     omega (

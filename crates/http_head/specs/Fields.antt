@@ -1,11 +1,13 @@
--- The fields of a head, and the size of the body that they tell (RFC 9110, section 5; RFC 9112, section 6).
-use Rattle.std.specs.Prelude.{ℕ, List, [], ◌∷◌, length, map, filter, Option, Some, None, Result, Ok, Err, Bool, true, false, ◌&&◌, ◌||◌, ◌==◌, ◌++◌, not, nat_le, nat_lt, if◌then◌else◌, codes}
+-- The fields of a head, and the framing of the body that they tell (RFC 9110, section 5; RFC 9112, section 6).
+use Rattle.std.specs.Prelude.{ℕ, List, [], ◌∷◌, length, map, filter, Option, Some, None, Result, Ok, Err, Bool, true, false, ◌&&◌, ◌||◌, ◌==◌, ◌++◌, not, nat_le, nat_lt, if◌then◌else◌, codes, ◌≤◌, ⊤}
 use Rattle.std.specs.List.{list_all, list_any}
 use Rattle.std.specs.Str.{bytes_eq}
 use Rattle.std.specs.Str.Parse.{digits_value}
 use Rattle.std.specs.Char.{to_ascii_lowercase, is_ascii_digit}
 use Rattle.http_head.specs.Member.{has_member}
 use Rattle.http_head.specs.Asked.{is_served}
+use Rattle.http_head.specs.declared.fields.Framing.{Framing}
+use Rattle.http_head.specs.declared.fields.Framing.TheVariants.{Length, Chunks}
 
 -- the field has this name, without ASCII case
 abbrev pub is_named : List ℕ → List ℕ × List ℕ → Bool
@@ -50,6 +52,27 @@ size_of [] = Ok 0
 size_of (v ∷ []) = size_in v
 size_of (v ∷ w ∷ vs) = Err 400
 
+-- the framing by a length, or its refusal
+abbrev pub by_length : Result ℕ ℕ → Result Framing ℕ
+by_length (Ok size) = Ok (Length size)
+by_length (Err code) = Err code
+
+-- the framing by one transfer coding: `chunked` in HTTP/1.1, with no Content-Length beside it, and nothing else
+unfoldable pub by_coding : ℕ → List ℕ → Bool → Result Framing ℕ
+by_coding minor v alone =
+    if not (minor == 0) && bytes_eq (map to_ascii_lowercase v) (codes "chunked") && alone then Ok Chunks else Err 400
+
+-- the framing that the values of Transfer-Encoding and of Content-Length tell
+abbrev pub framing_of : ℕ → List (List ℕ) → List (List ℕ) → Result Framing ℕ
+framing_of minor [] lengths = by_length (size_of lengths)
+framing_of minor (v ∷ []) lengths = by_coding minor v (is_absent lengths)
+framing_of minor (v ∷ w ∷ vs) lengths = Err 400
+
+-- a length isn't above the largest
+abbrev pub FramingFits : Framing → Type 0
+FramingFits (Length size) = size ≤ max_body
+FramingFits Chunks = ⊤
+
 -- there is one field of that name
 abbrev pub is_single : List (List ℕ) → Bool
 is_single [] = false
@@ -76,13 +99,12 @@ asks_close minor fields = minor == 0 || list_any (has_member (codes "close")) (v
 abbrev pub max_fields : ℕ
 max_fields = 64
 
--- The size of the body that a head tells, or the status that refuses it: the tests stand in their order. No body in chunks is
--- served, and none behind the interim response.
-unfoldable pub frame_of : ℕ → List ℕ → List (List ℕ × List ℕ) → Result ℕ ℕ
+-- The framing of the body that a head tells, or the status that refuses it: the tests stand in their order. No body is served
+-- behind the interim response.
+unfoldable pub frame_of : ℕ → List ℕ → List (List ℕ × List ℕ) → Result Framing ℕ
 frame_of minor target fields =
     if nat_lt max_fields (length fields) then Err 431 else
     if not (is_hosted minor fields) then Err 400 else
     if not (is_served target) then Err 400 else
-    if not (is_absent (values_of (codes "transfer-encoding") fields)) then Err 400 else
     if asks_interim minor fields then Err 400 else
-    size_of (values_of (codes "content-length") fields)
+    framing_of minor (values_of (codes "transfer-encoding") fields) (values_of (codes "content-length") fields)

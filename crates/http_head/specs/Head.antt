@@ -3,6 +3,7 @@ use Rattle.std.specs.Prelude.{◌≡◌, ℕ, ◌≤◌, List, length, map, Resu
 use Rattle.httparse.specs.Grammar.{RequestHead, ReadsRequest, print_request}
 use Rattle.httparse.specs.Spans.{name_and_value}
 use Rattle.http_head.specs.Fields.{frame_of}
+use Rattle.http_head.specs.declared.fields.Framing.{Framing}
 
 -- the longest head
 abbrev pub max_head : ℕ
@@ -21,8 +22,8 @@ HasNoHead bytes = (head : RequestHead) (after : List ℕ) → HasHead bytes head
 abbrev pub fields_of : RequestHead → List (List ℕ × List ℕ)
 fields_of head = map name_and_value head.fields
 
--- the size of the body that a head tells, or the status that refuses it
-abbrev pub frame : RequestHead → Result ℕ ℕ
+-- the framing of the body that a head tells, or the status that refuses it
+abbrev pub frame : RequestHead → Result Framing ℕ
 frame head = frame_of head.minor head.target (fields_of head)
 
 -- a whole head that is refused with this status

@@ -4,7 +4,7 @@ use Rattle.httparse.specs.Grammar.{RequestHead, NeverHasRequest, EndsInTarget, M
 use Rattle.httparse.specs.Spans.{IsRequestAt, IsRequestWithin, span_bytes, IsWithin}
 use Rattle.httparse.specs.declared.spans.Span.{Span}
 use Rattle.httparse.specs.declared.spans.HeaderSpan.{HeaderSpan}
-use Rattle.http_head.specs.Fields.{max_body, joined}
+use Rattle.http_head.specs.Fields.{FramingFits, joined}
 use Rattle.http_head.specs.Head.{frame, max_head, IsRefused}
 use Rattle.http_head.specs.declared.fields.Found.{Found}
 use Rattle.http_head.specs.declared.fields.Found.TheVariants.{Absent, One, Several}
@@ -51,8 +51,8 @@ pub record IsHead (buf : List ℕ) (headers : List HeaderSpan) (h : Head) : Type
   pub at : IsRequestAt buf headers h.spans head
   pub within : IsRequestWithin buf headers h.spans
   pub short : h.spans.len ≤ max_head
-  pub size : frame head ≡ Ok h.size
-  pub size_fits : h.size ≤ max_body
+  pub framed : frame head ≡ Ok h.framing
+  pub fits : FramingFits h.framing
 
 -- bytes that can't become a head, and don't end inside a target
 abbrev pub IsLost : List ℕ → Type 0

@@ -4,7 +4,7 @@ ghost use Rattle.std.specs.Str.Parse.{digits_value};
 ghost use Rattle.std.specs.Str.{bytes_eq};
 ghost use Rattle.std.specs.Char.{to_ascii_lowercase, is_ascii_digit};
 ghost use Rattle.httparse.specs.Spans.{header_bytes, IsHeaderWithin, IsWithin};
-ghost use Rattle.http_head.specs.Fields.{values_of, is_absent, size_in, size_of, frame_of, is_encoding, is_hosted, is_interim, asks_interim, asks_close, joined, max_body};
+ghost use Rattle.http_head.specs.Fields.{values_of, is_absent, size_in, size_of, by_length, by_coding, framing_of, FramingFits, frame_of, is_encoding, is_hosted, is_interim, asks_interim, asks_close, joined, max_body};
 ghost use Rattle.http_head.specs.Parts.{FoundIs, JoinedIs, found_absent, found_single, more_found};
 ghost use Rattle.http_head.specs.Member.{has_member};
 
@@ -17,6 +17,13 @@ use std::alloc::{AllocError, Global};
 const MAX_BODY: usize = 8_388_608;
 
 const MAX_FIELDS: usize = 64;
+
+/// How a body is framed: by its length, or as chunks (RFC 9112, section 6).
+#[derive(Clone, Copy)]
+pub enum Framing {
+    Length(usize),
+    Chunks,
+}
 
 /// The fields of one name.
 #[derive(Clone, Copy)]
@@ -137,16 +144,57 @@ fn body_size(buf: &[u8], headers: &[HeaderSpan]) -> Result<usize, u32>
     }
 }
 
-/// The size of the body, or the status of the first test that the head fails.
+/// The framing by a length.
+fn by_length(buf: &[u8], headers: &[HeaderSpan]) -> Result<Framing, u32>
+    requires { All (IsHeaderWithin (length buf.now)) headers.now }
+    ensures fits { IfOk result FramingFits }
+    ensures value { result ≡ by_length (size_of (values_of (codes "content-length") (map (header_bytes buf.now) headers.now))) }
+{
+    match body_size(buf, headers) {
+        Ok(size) => Ok(Framing::Length(size)),
+        Err(code) => Err(code),
+    }
+}
+
+/// The framing by one transfer coding.
+#[tactic(auto, unfolding(crate::specs::Fields::by_coding))]
+fn by_coding(version: u8, coding: &[u8], is_alone: bool) -> Result<Framing, u32>
+    ensures fits { IfOk result FramingFits }
+    ensures value { result ≡ by_coding version coding.now is_alone }
+{
+    if version != 0 && is_named(coding, b"chunked") && is_alone {
+        Ok(Framing::Chunks)
+    } else {
+        Err(400)
+    }
+}
+
+/// The framing that the fields tell.
+fn told_framing(buf: &[u8], headers: &[HeaderSpan], version: u8) -> Result<Framing, u32>
+    requires { All (IsHeaderWithin (length buf.now)) headers.now }
+    ensures fits { IfOk result FramingFits }
+    ensures value { result ≡ framing_of version (values_of (codes "transfer-encoding") (map (header_bytes buf.now) headers.now)) (values_of (codes "content-length") (map (header_bytes buf.now) headers.now)) }
+{
+    match find_values(buf, headers, b"transfer-encoding") {
+        Found::Absent => by_length(buf, headers),
+        Found::One(span) => {
+            let is_alone = lacks(buf, headers, b"content-length");
+            by_coding(version, span.of(buf), is_alone)
+        }
+        Found::Several => Err(400),
+    }
+}
+
+/// The framing of the body, or the status of the first test that the head fails.
 #[tactic(auto, unfolding(crate::specs::Fields::frame_of))]
-pub(crate) fn framed_size(
+pub(crate) fn head_framing(
     buf: &[u8],
     headers: &[HeaderSpan],
     version: u8,
     target: &[u8],
-) -> Result<usize, u32>
+) -> Result<Framing, u32>
     requires { All (IsHeaderWithin (length buf.now)) headers.now }
-    ensures bound { IfOk result (λ n. n ≤ max_body) }
+    ensures fits { IfOk result FramingFits }
     ensures value { result ≡ frame_of version target.now (map (header_bytes buf.now) headers.now) }
 {
     if headers.len() > MAX_FIELDS {
@@ -158,13 +206,10 @@ pub(crate) fn framed_size(
     if !is_served(target) {
         return Err(400);
     }
-    if !lacks(buf, headers, b"transfer-encoding") {
-        return Err(400);
-    }
     if asks_interim(buf, headers, version) {
         return Err(400);
     }
-    body_size(buf, headers)
+    told_framing(buf, headers, version)
 }
 
 /// Joins one more value to the text, behind a comma where one was found before.

@@ -9,6 +9,6 @@ mod target;
 mod verdict;
 
 pub use asked::asked_text;
-pub use fields::{asks_close, is_encoded, joined_values};
+pub use fields::{Framing, asks_close, is_encoded, joined_values};
 pub use member::{first_member, is_word};
 pub use verdict::{Head, Verdict, judge};

@@ -3,16 +3,16 @@ ghost use Rattle.httparse.specs.Spans.{IsRequestWithin, IsRequestOf};
 ghost use Rattle.http_head.specs.Head.{max_head};
 ghost use Rattle.http_head.specs.Parts.{Judges, max_spans};
 
-use crate::fields::framed_size;
+use crate::fields::{Framing, head_framing};
 use crate::target::ends_in_target;
 use httparse::Status;
 use httparse::spans::{HeaderSpan, RequestSpans, parse_request};
 
-/// Where the parts of a head are, and how long its body is.
+/// Where the parts of a head are, and how its body is framed.
 #[derive(Clone, Copy)]
 pub struct Head {
     pub spans: RequestSpans,
-    pub size: usize,
+    pub framing: Framing,
 }
 
 /// What the bytes at the front of a stream are.
@@ -32,8 +32,8 @@ fn judge_head(buf: &[u8], headers: &[HeaderSpan], spans: RequestSpans) -> Verdic
     ensures { Judges buf.now headers.now result }
 {
     let fields = &headers[..spans.headers];
-    match framed_size(buf, fields, spans.version, spans.path.of(buf)) {
-        Ok(size) => Verdict::Whole(Head { spans, size }),
+    match head_framing(buf, fields, spans.version, spans.path.of(buf)) {
+        Ok(framing) => Verdict::Whole(Head { spans, framing }),
         Err(code) => Verdict::Refused(code),
     }
 }

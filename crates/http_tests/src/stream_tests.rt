@@ -109,13 +109,18 @@ fn story_of(alloc: Global, source: &mut MemSource) -> Result<String, Fail> {
     Ok(told)
 }
 
-fn story(alloc: Global, bytes: &[u8], piece: usize, fail: &[u64]) -> Result<String, Fail> {
+pub(crate) fn story(
+    alloc: Global,
+    bytes: &[u8],
+    piece: usize,
+    fail: &[u64],
+) -> Result<String, Fail> {
     let mut source = source(alloc, bytes, piece, fail)?;
     story_of(alloc, &mut source)
 }
 
 /// Each input, in pieces of that size, is told so.
-fn end_so(
+pub(crate) fn end_so(
     rt: &impl Abort,
     alloc: Global,
     cases: &[(&str, &[u8], usize, &str)],
@@ -159,7 +164,7 @@ fn pieces_of_any_size_give_the_same_requests(rt: HostRuntime) -> Result<(), Fail
     end_so(&rt, rt.alloc(), &PIECES)
 }
 
-const ENDINGS: [(&str, &[u8], usize, &str); 22] = [
+const ENDINGS: [(&str, &[u8], usize, &str); 21] = [
     ("nothing", b"", 5, "end"),
     ("blank lines alone", b"\r\n\r\n", 5, "cut;end"),
     (
@@ -174,12 +179,6 @@ const ENDINGS: [(&str, &[u8], usize, &str); 22] = [
         b"GET / HTTP/1.1\r\nHost:p\r\nContent-Length: 2\r\n\r\nx",
         5,
         "cut;end",
-    ),
-    (
-        "a transfer encoding",
-        b"GET / HTTP/1.1\r\nHost:p\r\nTransfer-Encoding: chunked\r\n\r\n",
-        5,
-        "400;end",
     ),
     (
         "an expectation",

@@ -1,7 +1,7 @@
 use Rattle.std.proofs.Common.{◌≡◌, ◌++◌, ◌≤◌, ◌-◌, length, List, ℕ}
 use Rattle.http_conn.specs.Told.{Comes, LastRead}
 use Rattle.http_conn.specs.Next.{IsShort}
-use Rattle.http_conn.proofs.connection.fill_to.Given as goal
+use Rattle.http_conn.proofs.body.fill_to.Given as goal
 
 abbrev pub invariant-loop-held : goal.invariant-loop-held
 invariant-loop-held g l = record {

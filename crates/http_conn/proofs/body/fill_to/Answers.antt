@@ -2,7 +2,7 @@ use Rattle.std.proofs.Common.{◌∙◌, ◌<◌, ◌++◌, ℕ, List, length, a
 use Rattle.std.proofs.lemmas.Grind.{common_steps}
 use Rattle.http_conn.specs.Next.{IsShort}
 use Rattle.http_conn.proofs.PatientLemmas.{never_read, read_more}
-use Rattle.http_conn.proofs.connection.fill_to.Goals as goal
+use Rattle.http_conn.proofs.body.fill_to.Goals as goal
 
 pub loop-held-init : goal.loop-held-init
 loop-held-init g c = record {

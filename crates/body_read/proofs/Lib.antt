@@ -1,0 +1,4 @@
+pub mod ChunkLaws
+pub mod ChunkMore
+pub mod ChunkParts
+pub mod BodyLaws
