@@ -6,7 +6,7 @@ use Rattle.std.proofs.Math.Seq.{drop-cons}
 use Rattle.std.proofs.lemmas.List.Elements.{All-from_recursion}
 use Rattle.schema_keeper.specs.declared.row.SchemaRow.{SchemaRow}
 use Rattle.schema_keeper.specs.Keeper.{Begins, HadBefore, HadOrGot, IsAbove, row_of, with_row}
-use Rattle.schema_table.specs.Table.{AreApart, BeginsWith, Grew, HasForm, IsNext, IsTable, ToldOn, rows_behind, rows_of}
+use Rattle.schema_table.specs.Table.{AreApart, BeginsWith, Grew, HasForm, HasId, IsNext, IsTable, Lacks, ToldOn, rows_behind, rows_of}
 use Rattle.schema_table.proofs.IndexLemmas.{within}
 
 append-assoc : {X : Type 0} (xs ys zs : List X) → (xs ++ ys) ++ zs ≡ xs ++ (ys ++ zs)
@@ -243,3 +243,7 @@ finding_all texts rows place left finding = finding.joined left refl
 pub caused : {T E : Type 0} (result : Result T E) (F G : E → Type 0) → ((e : E) → F e → G e) → IfErr result F → IfErr result G
 caused (Ok v) F G step cause = tt
 caused (Err e) F G step cause = step e cause
+
+-- a text that a table lacks has no id in it
+pub lacked : (old new : List (List ℕ)) (id : ℕ) (text form : List ℕ) → new ≡ old → text ≡ form → Lacks old form → HasId new id text → ⊥
+lacked old new id text form same is lacks has = lacks has.0 (subst (λ t. slice_get old has.0 ≡ Some t) is (subst (λ l. slice_get l has.0 ≡ Some text) same has.2))

@@ -1,6 +1,6 @@
 //! The table over a keeper.
 
-ghost use Rattle.std.specs.Prelude.{◌≡◌, ◌≢◌, ◌⊎◌, ◌<◌, ◌≤◌, ℕ, List, [], ◌∷◌, ◌++◌, length, Ok, IsOk, true, false, IfOk, IfErr, OnOk, OnErr, IfSome, IfNone};
+ghost use Rattle.std.specs.Prelude.{◌≡◌, ◌≢◌, ◌⊎◌, ◌<◌, ◌≤◌, ℕ, List, [], ◌∷◌, ◌++◌, length, Ok, IsOk, IsErr, true, false, IfOk, IfErr, OnOk, OnErr, IfSome, IfNone};
 ghost use Rattle.gate_io.specs.Counts.{Rose};
 ghost use Rattle.avro_schema.specs.Canonical.{canonical_form};
 ghost use Rattle.avro_schema.specs.Nodes.{tree_of};
@@ -113,6 +113,7 @@ impl<P: Keeper + Drop> Table<P> {
         ensures fault { IfErr result (λ e. e ≡ TableNo.KeepFault
             → Rose (P.faults self.old.keeper) (P.faults self.new.keeper) ⊎ Unfit self.old.schemas (P.tells self.new.keeper)) }
         ensures full { IfErr result (λ e. e ≡ TableNo.Full → IsFull self.new.schemas (canonical_form (tree_of schema.now))) }
+        ensures room { self.old.stale ≡ false → IsFull self.old.schemas (canonical_form (tree_of schema.now)) → IsErr result }
         ensures told { ToldOn (P.tells self.old.keeper) (P.tells self.new.keeper) }
         ensures faults { P.faults self.old.keeper ≤ P.faults self.new.keeper }
     {
@@ -140,6 +141,7 @@ impl<P: Keeper + Drop> Table<P> {
 
         ensures fault { IfErr result (λ e. e ≡ TableNo.KeepFault → Rose (P.faults self.old.keeper) (P.faults self.new.keeper)) }
         ensures full { IfErr result (λ e. e ≡ TableNo.Full → IsFull self.new.schemas text.now) }
+        ensures room { IsFull self.old.schemas text.now → IsErr result }
         ensures told { ToldOn (P.tells self.old.keeper) (P.tells self.new.keeper) }
         ensures faults { P.faults self.old.keeper ≤ P.faults self.new.keeper }
     {
