@@ -1,0 +1,13 @@
+//! The table of schemas: ids for good, over anything that keeps its rows.
+#![tactic(auto)]
+
+mod known;
+mod load;
+mod schemas;
+mod table;
+#[cfg(test)]
+mod tests;
+
+pub use known::News;
+pub use schemas::Schemas;
+pub use table::{StartNo, Table, TableNo};
