@@ -8,8 +8,8 @@ use Rattle.std.proofs.lemmas.List.{take_more, take-append-drop}
 use Rattle.std.proofs.lemmas.Bool.Decides.{nat_tests}
 use Rattle.std.proofs.lemmas.Slice.Eq.{bytes_eq-Decides}
 use Rattle.std.proofs.lemmas.Grind.{common_steps}
-use Rattle.model.specs.Log.{Row, Part, Topic, Log, parts_in, part_at, Keeps, shape_of}
-use Rattle.model.specs.Entry.{is_zero}
+use Rattle.model.specs.state.Log.{Row, Part, Topic, Log, parts_in, part_at, Keeps, shape_of}
+use Rattle.model.specs.state.Entry.{is_zero}
 use Rattle.model.proofs.Stretches.{keeps_itself, keeps_on}
 use Rattle.model.proofs.Stored.{kept_row}
 use Rattle.broker_link.specs.Produced.{numbered, at_of, Takes, IsBased, IsPlainly, taken_of}

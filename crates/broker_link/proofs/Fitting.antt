@@ -4,8 +4,8 @@ use Rattle.std.specs.Prelude.{cond, is_some, nat_le, not}
 use Rattle.std.proofs.lemmas.List.{append-nil, append_assoc}
 use Rattle.std.proofs.lemmas.List.Sums.{sum_by-append, sum_by_push}
 use Rattle.std.proofs.lemmas.Bool.Decides.{nat_tests}
-use Rattle.model.specs.Log.{Log, Row}
-use Rattle.model.specs.Walk.{Place, size_of}
+use Rattle.model.specs.state.Log.{Log, Row}
+use Rattle.model.specs.step.Walk.{Place, size_of}
 use Rattle.broker_link.specs.Fetching.{are_none, bytes_in, fits, fitting, rows_in_turn, stored_from}
 use Rattle.broker_link.specs.Reads.{IsBound, all_from, less, room}
 use Rattle.broker_link.specs.declared.reading.Bound.{Bound}

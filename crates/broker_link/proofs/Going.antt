@@ -1,7 +1,7 @@
 -- Calls one after another.
 use Rattle.std.proofs.Common.{◌≡◌, ◌∙◌, ℕ, refl, subst, arith}
-use Rattle.model.specs.Log.{Log}
-use Rattle.model.specs.Fixed.{SameCommits}
+use Rattle.model.specs.state.Log.{Log}
+use Rattle.model.specs.step.Fixed.{SameCommits}
 use Rattle.model.proofs.Stretches.{keeps_itself, keeps_on}
 use Rattle.broker_link.specs.Causes.{Counts}
 use Rattle.broker_link.specs.Replies.{CountsKept}

@@ -11,7 +11,7 @@ use Rattle.std.proofs.lemmas.List.Sums.{prefix_len-le-length}
 use Rattle.std.proofs.lemmas.List.Kept.{AllPairs-cons}
 use Rattle.std.proofs.lemmas.List.Elements.{All-cons, All-nil, All-head, All-tail, All-weaker, Contains-append_left, Contains-push, Contains-push_cases}
 use Rattle.std.proofs.lemmas.Bool.Decides.{nat_tests}
-use Rattle.model.specs.Log.{Topic, shape_of}
+use Rattle.model.specs.state.Log.{Topic, shape_of}
 use Rattle.broker_link.specs.Made.{ArePlans}
 use Rattle.broker_link.specs.Metadata.{IsInfo, IsMetadata, NumberedFrom, asked, AreSorted}
 use Rattle.broker_link.specs.Infos.{is_below, insert_info, wanted, Up, Gathered, TakesIn}

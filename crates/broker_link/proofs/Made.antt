@@ -5,7 +5,7 @@ use Rattle.std.proofs.lemmas.Slice.Eq.{bytes_eq-Decides}
 use Rattle.std.proofs.lemmas.List.Kept.{AllPairs-cons}
 use Rattle.std.proofs.lemmas.List.Elements.{All-cons, All-nil, All-head, All-tail}
 use Rattle.std.proofs.lemmas.List.{length-replicate}
-use Rattle.model.specs.Log.{IsLog, IsPart, Row, Topic, parts_in, shape_of}
+use Rattle.model.specs.state.Log.{IsLog, IsPart, Row, Topic, parts_in, shape_of}
 use Rattle.broker_link.specs.Made.{ArePlans, empty_part, empty_topic}
 use Rattle.broker_link.specs.Stored.{log_of}
 

@@ -1,7 +1,7 @@
 -- Numbered records, one more at the end.
 use Rattle.std.proofs.Common.{◌≡◌, ℕ, ◌+◌, ◌<◌, List, [], ◌∷◌, ◌++◌, length, take, get_or, ap, ◌∙◌, arith, length-take}
 use Rattle.std.proofs.lemmas.List.{length-append, take_more}
-use Rattle.model.specs.Log.{Row}
+use Rattle.model.specs.state.Log.{Row}
 use Rattle.broker_link.specs.Produced.{numbered}
 use Rattle.broker_link.specs.Stored.{appended, part_of}
 use Rattle.broker_link.specs.declared.link.NewRecord.{NewRecord}

@@ -1,7 +1,7 @@
 -- Logs with rows of others, from logs without.
 use Rattle.std.proofs.Common.{ℕ, ◌≤◌, List, refl, arith}
-use Rattle.model.specs.Log.{Topic, Keeps}
-use Rattle.model.specs.Fixed.{SameCommits}
+use Rattle.model.specs.state.Log.{Topic, Keeps}
+use Rattle.model.specs.step.Fixed.{SameCommits}
 use Rattle.model.proofs.Stretches.{keeps_on}
 use Rattle.broker_link.specs.Stored.{log_of, log_with, OthersCame}
 

@@ -1,7 +1,7 @@
 -- What a produce leaves, after rows of others came.
 use Rattle.std.proofs.Common.{◌≡◌, ℕ, ◌+◌, List, [], subst, arith}
 use Rattle.std.specs.List.{AllZip}
-use Rattle.model.specs.Log.{Log, Topic, Keeps, rows_in_all}
+use Rattle.model.specs.state.Log.{Log, Topic, Keeps, rows_in_all}
 use Rattle.model.proofs.Stretches.{keeps_on}
 use Rattle.broker_link.specs.Produced.{at_of, IsAsked, IsPlaced, IsPlainly, MayBePlaced, Takes, taken_of}
 use Rattle.broker_link.specs.Stored.{ArePut, log_of, log_with, OthersCame, SomePut}

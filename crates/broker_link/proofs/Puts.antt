@@ -7,7 +7,7 @@ use Rattle.std.proofs.lemmas.List.Elements.{All-cons, All-nil, All-append}
 use Rattle.std.proofs.lemmas.Slice.Eq.{bytes_eq-Decides}
 use Rattle.std.proofs.lemmas.Bool.{cases_eq}
 use Rattle.std.proofs.lemmas.Grind.{common_steps}
-use Rattle.model.specs.Log.{TopicPart, Row, Rises, Part, IsPart, Topic, parts_in, part_at, KeepsPart, Keeps, IsLog, shape_of, rows_in_all}
+use Rattle.model.specs.state.Log.{TopicPart, Row, Rises, Part, IsPart, Topic, parts_in, part_at, KeepsPart, Keeps, IsLog, shape_of, rows_in_all}
 use Rattle.broker_link.specs.Produced.{numbered}
 use Rattle.broker_link.specs.Stored.{appended, log_of}
 use Rattle.broker_link.specs.declared.link.NewRecord.{NewRecord}

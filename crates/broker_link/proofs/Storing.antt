@@ -4,7 +4,7 @@ use Rattle.std.specs.Prelude.{slice_get, slice_set, ℤ, pos, negsuc, IfOk}
 use Rattle.std.specs.Int.{FitsUnsignedBits}
 use lib.IntN.{nat_abs}
 use Rattle.std.proofs.lemmas.Option.{get_or_from_slice_get}
-use Rattle.model.specs.Log.{Topic, Part}
+use Rattle.model.specs.state.Log.{Topic, Part}
 use Rattle.broker_link.specs.Stored.{appended}
 use Rattle.broker_link.specs.declared.link.NewRecord.{NewRecord}
 

@@ -6,9 +6,9 @@ use Rattle.std.proofs.lemmas.List.{append-nil, append_assoc, length-append, map_
 use Rattle.std.proofs.lemmas.List.Elements.{All-cons, All-head, All-nil, All-push, All-tail}
 use Rattle.std.proofs.lemmas.Bool.Decides.{nat_tests}
 use Rattle.std.proofs.lemmas.Grind.{common_steps}
-use Rattle.model.specs.Log.{Log, Part, Row, Topic, TopicPart, from, part_at, parts_in}
-use Rattle.model.specs.Fixed.{HasPart}
-use Rattle.model.specs.Walk.{length_of}
+use Rattle.model.specs.state.Log.{Log, Part, Row, Topic, TopicPart, from, part_at, parts_in}
+use Rattle.model.specs.step.Fixed.{HasPart}
+use Rattle.model.specs.step.Walk.{length_of}
 use Rattle.broker_link.specs.Fetching.{ask_at, asked, AreGot, AreInTurn, IsCommittedAt, IsFetched, IsGot, IsInside, IsOffsetFrom, fits, fitting, named_at, row_of, rows_in, rows_in_turn, stored_from, told_offset}
 use Rattle.broker_link.specs.Produced.{numbered}
 use Rattle.broker_link.specs.Reads.{AreRead, AreTaken, Fills, IsBound, IsRead, IsReading, IsTaking, all_from, less}

@@ -1,6 +1,6 @@
 -- What a link's refusals say by its counts.
 use Rattle.std.specs.Prelude.{◌≡◌, ℕ, ◌≤◌, ℤ, Result, OnOk, IfErr, ⊤, Option, Some, None, false}
-use Rattle.model.specs.Entry.{is_zero}
+use Rattle.model.specs.state.Entry.{is_zero}
 use Rattle.gate_io.specs.Counts.{Rose}
 use Rattle.broker_link.specs.declared.link.LinkNo.{LinkNo}
 use Rattle.broker_link.specs.declared.link.LinkNo.TheVariants.{Fault, Refused, Want}

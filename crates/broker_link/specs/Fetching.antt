@@ -2,11 +2,11 @@
 use mathlib.Core.List.{IsPrefix}
 use Rattle.std.specs.List.{AllZip}
 use Rattle.std.specs.Prelude.{ℕ, ℤ, pos, negsuc, nat_abs, nat_le, nat_lt, ◌+◌, ◌<◌, ◌≤◌, ◌^◌, ◌≡◌, ◌⊎◌, ◌||◌, Bool, true, false, cond, List, [], ◌∷◌, ◌++◌, map, length, sum_by, All, AllPairs, Option, Some, None}
-use Rattle.model.specs.Log.{TopicPart, is_at, Row, Log, part_at, from}
-use Rattle.model.specs.Walk.{Place, size_of}
-use Rattle.model.specs.World.{Edge}
-use Rattle.model.specs.World.Edge.{Start, End}
-use Rattle.model.specs.Fixed.{HasPart, edge_of}
+use Rattle.model.specs.state.Log.{TopicPart, is_at, Row, Log, part_at, from}
+use Rattle.model.specs.step.Walk.{Place, size_of}
+use Rattle.model.specs.state.World.{Edge}
+use Rattle.model.specs.state.World.Edge.{Start, End}
+use Rattle.model.specs.step.Fixed.{HasPart, edge_of}
 use Rattle.broker_link.specs.declared.fetch.TopicPart.{TopicPart as Part}
 use Rattle.broker_link.specs.declared.fetch.FetchFrom.{FetchFrom}
 use Rattle.broker_link.specs.declared.fetch.Fetched.{Fetched}

@@ -2,7 +2,7 @@
 use Rattle.std.specs.Prelude.{Bool, true, false, ◌⊎◌, ℕ, pos, ◌≡◌, cond, List, [], ◌∷◌, All, Contains, bytes_eq, Option, Some, None}
 use Rattle.std.specs.Ordering.{is_lt, nat_cmp}
 use Rattle.std.specs.Cmp.Lexicographic.{slice_cmp}
-use Rattle.model.specs.Log.{Topic}
+use Rattle.model.specs.state.Log.{Topic}
 use Rattle.broker_link.specs.Metadata.{IsInfo}
 use Rattle.broker_link.specs.declared.link.PartInfo.{PartInfo}
 use Rattle.broker_link.specs.declared.link.TopicInfo.{TopicInfo}

@@ -1,6 +1,6 @@
 -- A link that was just made: its topics are these, each with so many empty partitions.
 use Rattle.std.specs.Prelude.{◌≢◌, ◌<◌, ◌^◌, ℕ, pos, List, [], map, replicate, All, AllPairs, None}
-use Rattle.model.specs.Log.{Part, Topic, Log}
+use Rattle.model.specs.state.Log.{Part, Topic, Log}
 use Rattle.broker_link.specs.Causes.{Counts}
 use Rattle.broker_link.specs.Stands.{Produces}
 

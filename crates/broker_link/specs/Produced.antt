@@ -1,8 +1,8 @@
 -- What a produce of several partitions does to a log (Kafka protocol guide, Produce).
 use Rattle.std.specs.Prelude.{AllPairs, ◌≡◌, ◌≢◌, ℕ, ◌+◌, ◌≤◌, ◌<◌, ◌^◌, cond, ℤ, pos, nat_abs, List, [], ◌∷◌, length, All, Contains, Option, Some, None}
 use Rattle.std.specs.List.{AllZip}
-use Rattle.model.specs.Log.{TopicPart, Row, Log, part_at, parts_in, rows_in_all}
-use Rattle.model.specs.Entry.{is_zero}
+use Rattle.model.specs.state.Log.{TopicPart, Row, Log, part_at, parts_in, rows_in_all}
+use Rattle.model.specs.state.Entry.{is_zero}
 use Rattle.broker_link.specs.declared.link.NewRecord.{NewRecord}
 use Rattle.broker_link.specs.declared.link.PartRecords.{PartRecords}
 use Rattle.broker_link.specs.declared.link.PartPlaced.{PartPlaced}

@@ -2,8 +2,8 @@
 use mathlib.Core.List.{IsPrefix}
 use Rattle.std.specs.Prelude.{ℕ, true, false, pos, take, not, cond, nat_le, ◌≡◌, ◌-◌, ◌<◌, ◌≤◌, List, [], ◌++◌, ◌∷◌, map, drop, length, All, Option, Some, None}
 use Rattle.std.specs.List.{AllZip}
-use Rattle.model.specs.Log.{Log, Row}
-use Rattle.model.specs.Walk.{Place}
+use Rattle.model.specs.state.Log.{Log, Row}
+use Rattle.model.specs.step.Walk.{Place}
 use Rattle.broker_link.specs.Fetching.{AreInTurn, IsFetched, IsGot, IsOffsetFrom, are_none, asked, bytes_in, fitting, row_of, stored_from}
 use Rattle.broker_link.specs.Produced.{numbered}
 use Rattle.broker_link.specs.declared.fetch.FetchFrom.{FetchFrom}

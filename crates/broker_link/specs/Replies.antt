@@ -1,10 +1,10 @@
 -- The reply that a link's failure stands for, and what a reply says of the link's counts.
 use Rattle.std.specs.Prelude.{◌≡◌, ◌≤◌, ⊤, ℤ, true, All, Option, Some, None}
 use Rattle.gate_io.specs.Counts.{Rose}
-use Rattle.model.specs.Entry.{Placed, Reply}
-use Rattle.model.specs.Entry.Placed.{Stored, Failed}
-use Rattle.model.specs.Entry.Reply.{Answers, Broker, LinkFault, Want as NoMemory}
-use Rattle.model.specs.Legal.{is_fault, is_refusal}
+use Rattle.model.specs.state.Entry.{Placed, Reply}
+use Rattle.model.specs.state.Entry.Placed.{Stored, Failed}
+use Rattle.model.specs.state.Entry.Reply.{Answers, Broker, LinkFault, Want as NoMemory}
+use Rattle.model.specs.history.Legal.{is_fault, is_refusal}
 use Rattle.broker_link.specs.Causes.{Counts}
 use Rattle.broker_link.specs.declared.link.LinkNo.{LinkNo}
 use Rattle.broker_link.specs.declared.link.LinkNo.TheVariants.{Fault, Refused, Want as LinkWant}

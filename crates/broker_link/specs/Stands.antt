@@ -1,9 +1,9 @@
 -- How a link stands, and what a call of it leaves.
-use Rattle.std.specs.Prelude.{ℕ, ◌≡◌, ◌⊎◌, ◌+◌, ◌-◌, ◌^◌, min, Result, OnOk, IfErr}
+use Rattle.std.specs.Prelude.{ℕ, ℤ, List, ◌≡◌, ◌⊎◌, ◌+◌, ◌-◌, ◌^◌, min, Result, OnOk, IfErr}
 use Rattle.gate_io.specs.Counts.{Rose}
-use Rattle.model.specs.Log.{Log, Keeps, IsLog}
-use Rattle.model.specs.Fixed.{SameCommits}
-use Rattle.model.specs.Produced.{NoneAdded}
+use Rattle.model.specs.state.Log.{Log, Keeps, IsLog}
+use Rattle.model.specs.step.Fixed.{SameCommits}
+use Rattle.model.specs.step.Produced.{NoneAdded}
 use Rattle.broker_link.specs.Causes.{Counts, ComesOf}
 use Rattle.broker_link.specs.Replies.{CountsKept}
 use Rattle.broker_link.specs.declared.link.LinkNo.{LinkNo}
@@ -25,13 +25,14 @@ IsOnceAtMost now p q = (q ≡ p) ⊎ IsOneMore now p q
 
 -- How a link stands: its log with the commits beside it, where it tells them; whether nothing but want of memory
 -- and what the log lacks makes a call of it fail, and nobody else adds rows: any call, or the next one; whether a fetch
--- gives the rows of its asks in turn; what its metadata tells of a partition besides its number; what it counts, and
--- which produce calls it was asked.
+-- gives the rows of its asks in turn; which brokers it names, and what its metadata tells of a partition besides its
+-- number; what it counts, and which produce calls it was asked.
 pub record Stand : Type 1 where
   pub tells : Type 0
   pub plain : Type 0
   pub quiet : Type 0
   pub in_turn : Type 0
+  pub brokers : List ℤ → Type 0
   pub nodes : PartInfo → Type 0
   pub log : Log
   pub counts : Counts

@@ -1,10 +1,10 @@
 -- What a link in memory does with one partition's records, and with those of several.
 use Rattle.std.specs.Prelude.{◌≡◌, ℕ, ◌+◌, cond, List, ◌++◌, length, None}
-use Rattle.model.specs.Fixed.{SameCommits}
-use Rattle.model.specs.Produced.{NoneAdded}
+use Rattle.model.specs.step.Fixed.{SameCommits}
+use Rattle.model.specs.step.Produced.{NoneAdded}
 use Rattle.std.specs.List.{AllZip}
-use Rattle.model.specs.Log.{Part, Topic, Log, Keeps, IsLog, rows_in_all}
-use Rattle.model.specs.Entry.{is_zero}
+use Rattle.model.specs.state.Log.{Part, Topic, Log, Keeps, IsLog, rows_in_all}
+use Rattle.model.specs.state.Entry.{is_zero}
 use Rattle.broker_link.specs.Produced.{numbered, Takes, IsBased, IsPlainly, taken_of}
 use Rattle.broker_link.specs.declared.link.NewRecord.{NewRecord}
 use Rattle.broker_link.specs.declared.link.PartRecords.{PartRecords}

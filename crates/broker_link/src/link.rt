@@ -1,6 +1,6 @@
-ghost use Rattle.std.specs.Prelude.{◌≡◌, ◌≤◌, ◌<◌, ◌^◌, ◌≢◌, ℕ, pos, nat_abs, length, Option, option_map, All, IfOk, IfErr, OnErr};
+ghost use Rattle.std.specs.Prelude.{◌≡◌, ◌≤◌, ◌<◌, ◌<ℤ◌, ◌^◌, ◌≢◌, ℕ, pos, nat_abs, length, Option, option_map, All, AllPairs, IfOk, IfErr, OnErr};
 ghost use Rattle.std.specs.List.{AllZip};
-ghost use Rattle.model.specs.Fixed.{HasPart};
+ghost use Rattle.model.specs.step.Fixed.{HasPart};
 ghost use Rattle.broker_link.specs.Metadata.{IsMetadata};
 ghost use Rattle.broker_link.specs.Produced.{AreParts, IsAsked, IsPlaced, MayBePlaced, IsBased, IsPlainly, first_code};
 ghost use Rattle.broker_link.specs.Causes.{CodeComes};
@@ -87,6 +87,14 @@ pub trait Link {
 
     /// How the link stands.
     ghost stand: { Self → Stand };
+
+    /// The ids of the brokers, in rising order.
+    fn brokers(&mut self, alloc: Global) -> Result<Items<i32>, LinkNo>
+        ensures goes { Reads (stand self.old) (stand self.new) result }
+        ensures rise { IfOk result (AllPairs (λ x y. x <ℤ y)) }
+        ensures told { IfOk result (stand self.old).brokers }
+        ensures plainly { (stand self.old).plain → IfErr result (λ e. e ≡ Want) }
+        ensures quietly { (stand self.old).quiet → IfErr result (λ e. e ≡ Want) };
 
     /// The topics of that name, or all.
     fn metadata(&mut self, alloc: Global, topic: Option<&str>) -> Result<Items<TopicInfo>, LinkNo>

@@ -2,7 +2,7 @@
 
 ghost use Rattle.std.specs.Prelude.{◌≡◌, ◌<◌, ◌^◌, pos, length, [], ◌∷◌, All, IfOk, OnOk, option_map};
 ghost use Rattle.std.specs.List.{position, position_or_len};
-ghost use Rattle.model.specs.Log.{shape_of};
+ghost use Rattle.model.specs.state.Log.{shape_of};
 ghost use Rattle.broker_link.specs.Made.{ArePlans};
 ghost use Rattle.broker_link.specs.Metadata.{IsInfo, NumberedFrom};
 ghost use Rattle.broker_link.specs.Infos.{AreOnNodeOne, Gathered, IsOnNodeOne, insert_info, is_below, TakesIn, wanted};
@@ -14,7 +14,7 @@ use gate_io::{Items, Text};
 use std::alloc::{AllocError, Global};
 
 /// The one node.
-fn nodes(alloc: Global) -> Result<Items<i32>, AllocError>
+pub(crate) fn nodes(alloc: Global) -> Result<Items<i32>, AllocError>
     ensures { IfOk result (λ nodes. nodes ≡ pos 1 ∷ []) }
 {
     let mut nodes = Items::new(alloc);

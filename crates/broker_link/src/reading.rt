@@ -1,12 +1,13 @@
 //! How a link in memory takes stored rows for a fetch.
 
 ghost use Rattle.std.specs.Prelude.{◌≡◌, ◌+◌, ◌<◌, ◌^◌, ◌||◌, true, [], not, pos, nat_abs, drop, length, is_some, IfOk};
-ghost use Rattle.model.specs.Walk.{length_of};
+ghost use Rattle.model.specs.step.Walk.{length_of};
 ghost use Rattle.broker_link.specs.Fetching.{asked, IsFetched, IsGot, stored_from};
 ghost use Rattle.broker_link.specs.Produced.{numbered};
 ghost use Rattle.broker_link.specs.Reads.{AreRead, AreTaken, Fills, IsBound, IsRead, less};
 ghost use Rattle.broker_link.specs.Stored.{log_of};
 
+use crate::size::length_of;
 use crate::topics::{MemTopics, copied};
 use crate::{FetchFrom, Fetched, NewRecord, Stored};
 use gate_io::Items;
@@ -46,21 +47,11 @@ impl Bound {
     }
 }
 
-fn len_of(bytes: &Option<Items<u8>>) -> u64
-    ensures value { result ≡ length_of bytes.now }
-    ensures bound { result < 2 ^ 63 }
-{
-    match bytes {
-        Some(bytes) => bytes.as_slice().len() as u64,
-        None => 0,
-    }
-}
-
 /// The key and value bytes of a record.
 fn size_of(one: &NewRecord) -> u64
     ensures { result ≡ length_of one.now.key + length_of one.now.value }
 {
-    len_of(&one.key) + len_of(&one.value)
+    length_of(&one.key) + length_of(&one.value)
 }
 
 /// The row of a record at an offset.

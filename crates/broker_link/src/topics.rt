@@ -3,8 +3,8 @@
 ghost use Rattle.std.specs.Prelude.{true, false, ◌≡◌, ◌∷◌, [], ◌+◌, ◌<◌, ◌≤◌, ◌^◌, List, Some, None, pos, nat_abs, length, IfOk, OnErr, IfSome, slice_get, slice_set, replicate, map, Contains, AllPairs};
 ghost use Rattle.std.specs.Str.{bytes_eq};
 ghost use Rattle.std.specs.List.{position};
-ghost use Rattle.model.specs.Log.{Part, Topic, part_at};
-ghost use Rattle.model.specs.Fixed.{HasPart};
+ghost use Rattle.model.specs.state.Log.{Part, Topic, part_at};
+ghost use Rattle.model.specs.step.Fixed.{HasPart};
 ghost use Rattle.broker_link.specs.Fetching.{ask_at, HaveAsked, named_at};
 ghost use Rattle.broker_link.specs.Made.{empty_part, empty_topic};
 ghost use Rattle.broker_link.specs.Produced.{AreParts, first_code};
@@ -22,7 +22,7 @@ pub(crate) struct MemPart {
 }
 
 impl Model for MemPart {
-    ghost use Rattle.model.specs.Log.{Part};
+    ghost use Rattle.model.specs.state.Log.{Part};
     ghost use Rattle.broker_link.specs.Stored.{part_of};
 
     ghost Value = { Part };
@@ -37,7 +37,7 @@ pub(crate) struct MemTopic {
 }
 
 impl Model for MemTopic {
-    ghost use Rattle.model.specs.Log.{Topic};
+    ghost use Rattle.model.specs.state.Log.{Topic};
 
     ghost Value = { Topic };
 

@@ -4,19 +4,19 @@ use Rattle.std.specs.Prelude.{◌⊎◌, ◌≢◌, ◌==◌, All}
 use Rattle.std.proofs.lemmas.Bool.Decides.{nat_tests}
 use Rattle.std.proofs.lemmas.List.Elements.{All-nil}
 use Rattle.std.proofs.lemmas.List.{get_or-map, length-map}
-use Rattle.model.specs.Log.{TopicPart, Log, Keeps, IsLog}
-use Rattle.model.specs.Walk.{Place}
-use Rattle.model.specs.World.{Key, Consumer, touched}
-use Rattle.model.specs.World.Mode.{ByTopics}
-use Rattle.model.specs.Entry.{Reply}
-use Rattle.model.specs.Entry.Act.{Assign}
-use Rattle.model.specs.Entry.Call.{Of}
-use Rattle.model.specs.Texts.{response_of}
-use Rattle.model.specs.Entry.Reply.{Done, Broker, LinkFault, Want}
-use Rattle.model.specs.Fixed.{Fixes, HasPart, SameCommits}
-use Rattle.model.specs.Produced.{NoneAdded}
-use Rattle.model.specs.Ends.{EndsIf, as_assigned}
-use Rattle.model.specs.Rules.{IsSet, IsLacking, IsAssigned, lacking}
+use Rattle.model.specs.state.Log.{TopicPart, Log, Keeps, IsLog}
+use Rattle.model.specs.step.Walk.{Place}
+use Rattle.model.specs.state.World.{Key, Consumer, touched}
+use Rattle.model.specs.state.World.Mode.{ByTopics}
+use Rattle.model.specs.state.Entry.{Reply}
+use Rattle.model.specs.state.Entry.Act.{Assign}
+use Rattle.model.specs.state.Entry.Call.{Of}
+use Rattle.model.specs.texts.Texts.{response_of}
+use Rattle.model.specs.state.Entry.Reply.{Done, Broker, LinkFault, Want}
+use Rattle.model.specs.step.Fixed.{Fixes, HasPart, SameCommits}
+use Rattle.model.specs.step.Produced.{NoneAdded}
+use Rattle.model.specs.step.Ends.{EndsIf, as_assigned}
+use Rattle.model.specs.step.Rules.{IsSet, IsLacking, IsAssigned, lacking}
 use Rattle.model.proofs.Stretches.{keeps_itself}
 use Rattle.broker_link.specs.Causes.{Counts}
 use Rattle.broker_link.specs.Fetching.{at_of}
@@ -26,9 +26,10 @@ use Rattle.broker_link.proofs.Puts.{get_or_any}
 use Rattle.broker_link.specs.declared.link.LinkNo.TheVariants as link
 use Rattle.rest_codes.specs.declared.response.Reply.{Reply as CodeReply}
 use Rattle.rest_calls.specs.Responses.{response_in}
-use Rattle.consumer_state.specs.Acting.{ActsSo, AreThere, forms}
-use Rattle.consumer_state.specs.Failing.{Says}
-use Rattle.consumer_state.specs.Linking.{ComesOf, FitsCode, refusal_of}
+use Rattle.rest_replies.specs.Forms.{forms}
+use Rattle.consumer_state.specs.Assign.{ActsSo, AreThere}
+use Rattle.rest_replies.specs.Failure.{Says}
+use Rattle.consumer_state.specs.LinkCalls.{ComesOf, FitsCode, refusal_of}
 use Rattle.consumer_state.specs.Views.{mode_of}
 use Rattle.consumer_state.specs.declared.topics.AssignNo.{AssignNo}
 use Rattle.consumer_state.specs.declared.topics.AssignNo.TheVariants.{NoTopic, NoPartition, Failed}

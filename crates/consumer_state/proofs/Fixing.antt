@@ -4,18 +4,18 @@ use Rattle.std.specs.Prelude.{◌⊎◌, All, Contains}
 use Rattle.std.specs.List.{AllZip}
 use Rattle.std.proofs.lemmas.List.{get_or-map, length-map, map_push, take_more}
 use Rattle.std.proofs.lemmas.List.Elements.{All-push}
-use Rattle.model.specs.Log.{TopicPart, Log, Keeps, IsLogAfter}
-use Rattle.model.specs.Walk.{Place}
-use Rattle.model.specs.World.{Edge, IsInOrder, IsLow, is_before, position_in}
-use Rattle.model.specs.Fixed.{Fixes, HasPart, fixed_at}
-use Rattle.model.specs.Rules.{IsSet, lacking}
+use Rattle.model.specs.state.Log.{TopicPart, Log, Keeps, IsLogAfter}
+use Rattle.model.specs.step.Walk.{Place}
+use Rattle.model.specs.state.World.{Edge, IsInOrder, IsLow, is_before, position_in}
+use Rattle.model.specs.step.Fixed.{Fixes, HasPart, fixed_at}
+use Rattle.model.specs.step.Rules.{IsSet, lacking}
 use Rattle.model.proofs.Stretches.{keeps_itself, keeps_on}
 use Rattle.broker_link.specs.Fetching.{at_of, told_offset}
 use Rattle.broker_link.specs.declared.fetch.TopicPart.{TopicPart as Part}
-use Rattle.consumer_state.specs.declared.place.Place.{Place as CodePlace}
-use Rattle.consumer_state.specs.Fixing.{AreFixed, IsFixed, IsKnown, merged, next_after}
-use Rattle.consumer_state.specs.Sorting.{AreRising, AreSorted}
-use Rattle.consumer_state.specs.Views.{at_in, place_of}
+use Rattle.broker_link.specs.declared.place.Place.{Place as CodePlace}
+use Rattle.consumer_state.specs.Fix.{AreFixed, IsFixed, IsKnown, merged, next_after}
+use Rattle.consumer_state.specs.Order.{AreRising, AreSorted}
+use Rattle.broker_link.specs.Places.{at_in, place_of}
 use Rattle.broker_link.proofs.Puts.{get_or_any}
 use Rattle.consumer_state.proofs.Lacking.{part_there, same_count}
 

@@ -5,13 +5,13 @@ use Rattle.std.specs.List.{AllZip}
 use Rattle.std.proofs.Math.Seq.{drop-cons}
 use Rattle.std.proofs.lemmas.List.{get_or-map, length-map, map_push, take_more}
 use Rattle.std.proofs.lemmas.List.Elements.{filter-append}
-use Rattle.model.specs.Log.{TopicPart, Log}
-use Rattle.model.specs.Walk.{Place}
-use Rattle.model.specs.World.{position_in}
+use Rattle.model.specs.state.Log.{TopicPart, Log}
+use Rattle.model.specs.step.Walk.{Place}
+use Rattle.model.specs.state.World.{position_in}
 use Rattle.broker_link.specs.Fetching.{at_of, told_offset, IsCommittedAt}
 use Rattle.broker_link.specs.declared.fetch.TopicPart.{TopicPart as Part}
 use Rattle.broker_link.proofs.Puts.{get_or_any}
-use Rattle.consumer_state.specs.Fixing.{is_new, known_at, merged, next_after, IsKnown}
+use Rattle.consumer_state.specs.Fix.{is_new, known_at, merged, next_after, IsKnown}
 
 -- ---- those that weren't assigned
 

@@ -5,90 +5,21 @@ use Rattle.std.specs.List.{list_any}
 use Rattle.std.proofs.lemmas.Slice.Eq.{bytes_eq-Decides}
 use Rattle.std.proofs.lemmas.List.{get_or-map, length-map}
 use Rattle.std.proofs.lemmas.List.Elements.{All-cons, All-head, All-nil, All-tail, All-more}
-use Rattle.model.specs.Log.{Topic, TopicPart, Log, IsLog, Keeps, shape_of, parts_in}
-use Rattle.model.specs.Fixed.{HasPart}
-use Rattle.model.specs.Rules.{lacking}
+use Rattle.model.specs.state.Log.{Topic, TopicPart, Log, IsLog, Keeps, shape_of, parts_in}
+use Rattle.model.specs.step.Fixed.{HasPart}
+use Rattle.model.specs.step.Rules.{lacking}
 use Rattle.std.proofs.lemmas.Bool.Decides.{nat_tests}
 use Rattle.broker_link.specs.Fetching.{at_of}
-use Rattle.broker_link.specs.Metadata.{IsInfo, IsMetadata}
+use Rattle.broker_link.specs.Count.{IsCount}
 use Rattle.broker_link.specs.declared.fetch.TopicPart.{TopicPart as Part}
-use Rattle.broker_link.specs.declared.link.TopicInfo.{TopicInfo}
 use Rattle.broker_link.proofs.Answered.{parts_counted}
-use Rattle.consumer_state.specs.Lacking.{FitsNext, Pass, count_in, has_topic, is_beyond, topic_code}
-use Rattle.consumer_state.specs.Linking.{FitsCode, IsFailed}
+use Rattle.consumer_state.specs.Topics.{FitsNext, Pass, has_topic, is_beyond, topic_code}
+use Rattle.consumer_state.specs.LinkCalls.{FitsCode, IsFailed}
 use Rattle.consumer_state.specs.declared.topics.AssignNo.{AssignNo}
 use Rattle.consumer_state.specs.declared.topics.AssignNo.TheVariants.{NoTopic, NoPartition, Failed}
 
 abbrev is_called : List ℕ → Topic → Bool
 is_called name t = bytes_eq t.name name
-
--- ---- what the metadata of one topic says of the log
-
--- no other topic has the name
-none_called : (u : Topic) (us : List Topic) (name : List ℕ) → All (λ v. bytes_eq u.name v.name ≡ false) us → bytes_eq u.name name ≡ true → filter (is_called name) us ≡ []
-none_called u [] name all is = refl
-none_called u (v ∷ vs) name all is =
-    go (bytes_eq v.name name) refl (none_called u vs name (All-tail (λ (v : Topic). bytes_eq u.name v.name ≡ false) v vs all) is)
-  where
-    go : (b : Bool) → bytes_eq v.name name ≡ b → filter (is_called name) vs ≡ [] → filter (is_called name) (v ∷ vs) ≡ []
-    go true e rest =
-        let same : v.name ≡ name = (bytes_eq-Decides v.name name).0 e in
-        let differ : bytes_eq u.name v.name ≡ false = All-head (λ (v : Topic). bytes_eq u.name v.name ≡ false) v vs all in
-        absurd (cc (differ, ap (λ n. bytes_eq u.name n) same, is))
-    go false e rest = rw e rest
-
--- the one topic of that name
-found : (ts : List Topic) (name : List ℕ) (t : Topic) → AllPairs (λ x y. bytes_eq x.name y.name ≡ false) ts → Contains (filter (is_called name) ts) t
-    → (list_any (is_called name) ts ≡ true) × (length (parts_in ts name) ≡ length t.parts)
-found [] name t pairs c = absurd (omega (arith, c.1))
-found (u ∷ us) name t pairs c = go (bytes_eq u.name name) refl c (λ d. found us name t (λ i j d lt le. pairs (suc i) (suc j) d (omega (arith, lt)) (omega (arith, le))) d)
-  where
-    go : (b : Bool) → bytes_eq u.name name ≡ b → Contains (filter (is_called name) (u ∷ us)) t
-        → (Contains (filter (is_called name) us) t → (list_any (is_called name) us ≡ true) × (length (parts_in us name) ≡ length t.parts))
-        → (list_any (is_called name) (u ∷ us) ≡ true) × (length (parts_in (u ∷ us) name) ≡ length t.parts)
-    go true e c ih =
-        let others : filter (is_called name) us ≡ [] = none_called u us name (λ k d lt. pairs 0 (suc k) d (omega arith) (omega (arith, lt))) e in
-        let kept : filter (is_called name) (u ∷ us) ≡ u ∷ [] = rw e (ap (λ l. u ∷ l) others) in
-        let one : Contains (u ∷ []) t = rw kept at c in
-        rw e (refl, ap (λ (x : Topic). length x.parts) (only u t one))
-      where
-        only : (u t : Topic) → Contains (u ∷ []) t → u ≡ t
-        only u t (zero, lt, here) = here
-        only u t (suc k, lt, here) = absurd (omega (arith, lt))
-    go false e c ih =
-        let same : filter (is_called name) (u ∷ us) ≡ filter (is_called name) us = rw e refl in
-        let both = ih (rw same at c) in
-        rw e both
-
--- a topic of that name is kept
-some_called : (ts : List Topic) (name : List ℕ) → list_any (is_called name) ts ≡ true → 0 < length (filter (is_called name) ts)
-some_called [] name is = absurd (cc is)
-some_called (u ∷ us) name is = go (bytes_eq u.name name) refl (some_called us name) is
-  where
-    go : (b : Bool) → bytes_eq u.name name ≡ b → (list_any (is_called name) us ≡ true → 0 < length (filter (is_called name) us)) → list_any (is_called name) (u ∷ us) ≡ true
-        → 0 < length (filter (is_called name) (u ∷ us))
-    go true e ih is = rw e (omega arith)
-    go false e ih is = let rest : list_any (is_called name) (u ∷ us) ≡ list_any (is_called name) us = rw e refl in rw e (ih (sym rest ∙ is))
-
-told_none : (log : Log) (topic : List ℕ) (infos : List TopicInfo) → IsMetadata (Some topic) log infos → count_in infos ≡ None → has_topic log topic ≡ false
-told_none log topic [] tells none = go (has_topic log topic) refl
-  where
-    go : (b : Bool) → has_topic log topic ≡ b → has_topic log topic ≡ false
-    go true has =
-        let any : Topic = record { name = []; parts = [] } in
-        let told = tells.all 0 any (some_called log.topics topic has) in
-        absurd (omega (arith, told.1.1))
-    go false not_there = not_there
-told_none log topic (info ∷ infos) tells none = absurd (cc none)
-
-told_some : (log : Log) (topic : List ℕ) (infos : List TopicInfo) (n : ℕ) → IsLog log → IsMetadata (Some topic) log infos → count_in infos ≡ Some n
-    → (has_topic log topic ≡ true) × (length (parts_in log.topics topic) ≡ n)
-told_some log topic [] n is tells some = absurd (cc some)
-told_some log topic (info ∷ infos) n is tells some =
-    let told = All-head (λ (info : TopicInfo). (t : Topic) × Contains (filter (is_called topic) log.topics) t × IsInfo t info) info infos tells.each in
-    let both = found log.topics topic told.0 is.names told.1 in
-    let count : length info.parts ≡ n = cc some in
-    (both.0, both.1 ∙ (sym told.2.count ∙ count))
 
 -- ---- a log that was kept has the same topics
 
@@ -140,17 +71,19 @@ any_lacked log topic n (p ∷ ps) count = go (is_beyond topic n (at_of p)) refl 
     go false e f ih = let g : is_lacked log topic (at_of p) ≡ false = f ∙ e in rw (e, g) ih
 
 -- the log has no topic of that name
-pub no_topic : (a m : Log) (topic : List ℕ) (ats : List TopicPart) (infos : List TopicInfo) → Keeps a m → IsMetadata (Some topic) m infos → count_in infos ≡ None
-    → topic_code a ats topic ≡ Some 40401
-no_topic a m topic ats infos keeps tells none =
-    let e : has_topic a topic ≡ false = sym (named_as a.topics m.topics topic keeps.shape) ∙ told_none m topic infos tells none in
+pub no_topic : (a m : Log) (topic : List ℕ) (ats : List TopicPart) → Keeps a m → IsCount m topic None → topic_code a ats topic ≡ Some 40401
+no_topic a m topic ats keeps none =
+    let e : has_topic a topic ≡ false = sym (named_as a.topics m.topics topic keeps.shape) ∙ lacks (has_topic m topic) refl in
     rw e refl
+  where
+    lacks : (b : Bool) → has_topic m topic ≡ b → has_topic m topic ≡ false
+    lacks true has = absurd (none has)
+    lacks false has_none = has_none
 
 -- it has one, and some listed partition is behind the last one or none is
-pub of_topic : (a m : Log) (topic : List ℕ) (parts : List Part) (infos : List TopicInfo) (n : ℕ) (b : Bool) → IsLog m → Keeps a m → IsMetadata (Some topic) m infos → count_in infos ≡ Some n
+pub of_topic : (a m : Log) (topic : List ℕ) (parts : List Part) (n : ℕ) (b : Bool) → Keeps a m → IsCount m topic (Some n)
     → list_any (λ part. is_beyond topic n (at_of part)) parts ≡ b → topic_code a (map at_of parts) topic ≡ cond b (Some 40402) None
-of_topic a m topic parts infos n b is keeps tells some any =
-    let told = told_some m topic infos n is tells some in
+of_topic a m topic parts n b keeps told any =
     let e : has_topic a topic ≡ true = sym (named_as a.topics m.topics topic keeps.shape) ∙ told.0 in
     let count : length (parts_in a.topics topic) ≡ n = sym (same_count a m topic keeps) ∙ told.1 in
     let f : list_any (is_lacked a topic) (map at_of parts) ≡ b = any_lacked a topic n parts count ∙ any in

@@ -1,8 +1,6 @@
-pub mod Failing
 pub mod Linking
 pub mod Lacking
 pub mod Sorting
 pub mod Knowing
 pub mod Fixing
 pub mod Assigning
-pub mod Texts

@@ -1,19 +1,19 @@
 -- From what one call of a link leaves to what several leave.
 use Rattle.std.proofs.Common.{◌≡◌, ℕ, ◌≤◌, refl, ap, ◌∙◌, arith, Result, Ok, Err, Some, true, false, ℤ}
 use Rattle.std.specs.Prelude.{IfOk}
-use Rattle.model.specs.Log.{Log, Keeps}
-use Rattle.model.specs.Fixed.{SameCommits}
-use Rattle.model.specs.Produced.{NoneAdded}
-use Rattle.model.specs.Entry.{Reply}
-use Rattle.model.specs.Entry.Reply.{Refused, Broker, Want}
-use Rattle.model.specs.Legal.{is_fault, is_refusal}
+use Rattle.model.specs.state.Log.{Log, Keeps}
+use Rattle.model.specs.step.Fixed.{SameCommits}
+use Rattle.model.specs.step.Produced.{NoneAdded}
+use Rattle.model.specs.state.Entry.{Reply}
+use Rattle.model.specs.state.Entry.Reply.{Refused, Broker, Want}
+use Rattle.model.specs.history.Legal.{is_fault, is_refusal}
 use Rattle.model.proofs.Stretches.{keeps_itself, keeps_on}
 use Rattle.gate_io.specs.Counts.{Rose}
 use Rattle.broker_link.specs.Causes.{Counts}
 use Rattle.broker_link.specs.Replies.{CountsKept, IsCounted}
 use Rattle.broker_link.specs.Stands.{Stand}
 use Rattle.broker_link.specs.declared.link.LinkNo.TheVariants as link
-use Rattle.consumer_state.specs.Linking.{ComesOf, GoesOn, IsCaused, refusal_of}
+use Rattle.consumer_state.specs.LinkCalls.{ComesOf, GoesOn, IsCaused, refusal_of}
 use Rattle.consumer_state.specs.declared.topics.AssignNo.{AssignNo}
 use Rattle.consumer_state.specs.declared.topics.AssignNo.TheVariants.{NoTopic, NoPartition, Failed}
 

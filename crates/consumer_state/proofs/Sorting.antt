@@ -13,12 +13,12 @@ use Rattle.std.proofs.lemmas.List.Sums.{prefix_len-le-length}
 use Rattle.std.proofs.lemmas.List.Kept.{AllPairs-cons, AllPairs-filter}
 use Rattle.std.proofs.lemmas.List.Elements.{All-cons, All-nil, All-head, All-tail, All-weaker, Contains-append_left, Contains-push, Contains-push_cases}
 use Rattle.std.proofs.lemmas.Bool.Decides.{nat_tests}
-use Rattle.model.specs.Log.{TopicPart, is_at}
-use Rattle.model.specs.World.{is_before}
+use Rattle.model.specs.state.Log.{TopicPart, is_at}
+use Rattle.model.specs.state.World.{is_before}
 use Rattle.model.proofs.Walks.{same_from_is_at}
 use Rattle.broker_link.specs.Fetching.{at_of}
 use Rattle.broker_link.specs.declared.fetch.TopicPart.{TopicPart as Part}
-use Rattle.consumer_state.specs.Sorting.{AreRising, AreSorted, begins_with, put_at}
+use Rattle.consumer_state.specs.Order.{AreRising, AreSorted, begins_with, put_at}
 
 -- ---- the order
 

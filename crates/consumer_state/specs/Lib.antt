@@ -1,9 +1,6 @@
 pub mod Views
-pub mod Acting
-pub mod Failing
-pub mod Linking
-pub mod Lacking
-pub mod Sorting
-pub mod Fixing
-pub mod Making
-pub mod Listing
+pub mod Assign
+pub mod LinkCalls
+pub mod Topics
+pub mod Order
+pub mod Fix

@@ -1,20 +1,11 @@
 -- What a consumer stands for in the model (Confluent REST Proxy API v2, consumers).
-use Rattle.std.specs.Prelude.{◌≤◌, nat_abs, List, [], ◌∷◌, map, length}
-use Rattle.model.specs.Log.{TopicPart}
-use Rattle.model.specs.Walk.{Place}
-use Rattle.model.specs.World.{Mode, Consumer, IsInOrder, IsConsumer}
-use Rattle.model.specs.World.Mode.{Unset, Assigned}
+use Rattle.std.specs.Prelude.{◌≤◌, List, [], ◌∷◌, map, length}
+use Rattle.model.specs.step.Walk.{Place}
+use Rattle.model.specs.state.World.{Mode, Consumer, IsInOrder, IsConsumer}
+use Rattle.model.specs.state.World.Mode.{Unset, Assigned}
+use Rattle.broker_link.specs.Places.{place_of}
 use Rattle.rest_calls.specs.Views.{settings_of}
-use Rattle.consumer_state.specs.declared.place.Place.{Place as CodePlace}
 use Rattle.consumer_state.specs.declared.consumer.Consumer.{Consumer as CodeConsumer}
-
--- the partition of a place
-abbrev pub at_in : CodePlace → TopicPart
-at_in p = record { topic = p.topic; partition = nat_abs p.partition }
-
--- a place
-abbrev pub place_of : CodePlace → Place
-place_of p = record { at = at_in p; position = nat_abs p.position }
 
 -- partitions are assigned, or none are
 abbrev pub mode_of : List Place → Mode

@@ -1,26 +1,26 @@
 ghost use Rattle.std.specs.Prelude.{◌≡◌, IfOk, IfErr, List, [], ℕ, map, Some};
-ghost use Rattle.model.specs.Log.{IsLog};
-ghost use Rattle.model.specs.World.{IsLow};
-ghost use Rattle.model.specs.Fixed.{Fixes};
-ghost use Rattle.model.specs.Rules.{IsSet, lacking};
-ghost use Rattle.model.specs.Entry.Act.{Assign};
+ghost use Rattle.model.specs.state.Log.{IsLog};
+ghost use Rattle.model.specs.state.World.{IsLow};
+ghost use Rattle.model.specs.step.Fixed.{Fixes};
+ghost use Rattle.model.specs.step.Rules.{IsSet, lacking};
+ghost use Rattle.model.specs.state.Entry.Act.{Assign};
 ghost use Rattle.broker_link.specs.Fetching.{at_of, edge_view};
 ghost use Rattle.broker_link.specs.Replies.{CountsKept, IsGood};
 ghost use Rattle.rest_calls.specs.Responses.{response_in};
 ghost use Rattle.rest_calls.specs.Views.{key_in};
-ghost use Rattle.consumer_state.specs.Acting.{ActsSo};
-ghost use Rattle.consumer_state.specs.Failing.{SaysOrWant};
-ghost use Rattle.consumer_state.specs.Linking.{FitsCode, GoesOn, IsCaused, refusal_of};
-ghost use Rattle.consumer_state.specs.Views.{IsSound, at_in, consumer_of, place_of};
+ghost use Rattle.consumer_state.specs.Assign.{ActsSo};
+ghost use Rattle.rest_replies.specs.Failure.{SaysOrWant};
+ghost use Rattle.consumer_state.specs.LinkCalls.{FitsCode, GoesOn, IsCaused, refusal_of};
+ghost use Rattle.broker_link.specs.Places.{at_in, place_of};
+ghost use Rattle.consumer_state.specs.Views.{IsSound, consumer_of};
 
-use crate::Place;
 use crate::consumer::Consumer;
-use crate::failure::{link_failure, refused};
 use crate::fix::fix;
 use crate::order::sorted;
 use crate::topics::{AssignNo, check_topics};
-use broker_link::{Edge, Link, TopicPart};
+use broker_link::{Edge, Link, Place, TopicPart};
 use rest_codes::Reply;
+use rest_replies::{link_failure, refused};
 use std::alloc::Global;
 
 /// The places that are assigned by a list, where the topics have its partitions.

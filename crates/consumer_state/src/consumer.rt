@@ -1,4 +1,4 @@
-use crate::Place;
+use broker_link::Place;
 use rest_calls::Settings;
 
 /// What is kept of a consumer: its partitions by topic and number, the place among them at which

@@ -1,19 +1,18 @@
 ghost use Rattle.std.specs.Prelude.{[], ◌∷◌, ◌++◌, OnOk, ◌≡◌, ◌<◌, ◌^◌, ◌≤ℤ◌, All, AllPairs, IfOk, IfErr, List, ℕ, length, map, nat_abs, pos, filter, false};
 ghost use Rattle.std.specs.List.{AllZip};
-ghost use Rattle.model.specs.Log.{IsLog, is_at};
-ghost use Rattle.model.specs.World.{IsLow};
-ghost use Rattle.model.specs.Fixed.{Fixes, HasPart};
+ghost use Rattle.model.specs.state.Log.{IsLog, is_at};
+ghost use Rattle.model.specs.state.World.{IsLow};
+ghost use Rattle.model.specs.step.Fixed.{Fixes, HasPart};
 ghost use Rattle.broker_link.specs.Fetching.{IsCommittedAt, at_of, edge_view};
 ghost use Rattle.broker_link.specs.Replies.{IsGood};
-ghost use Rattle.consumer_state.specs.Fixing.{AreFixed, IsFixed};
-ghost use Rattle.consumer_state.specs.Linking.{GoesOn, IsCaused, IsFailed, refusal_of};
-ghost use Rattle.consumer_state.specs.Sorting.{AreRising};
-ghost use Rattle.consumer_state.specs.Views.{at_in, place_of};
+ghost use Rattle.consumer_state.specs.Fix.{AreFixed, IsFixed};
+ghost use Rattle.consumer_state.specs.LinkCalls.{GoesOn, IsCaused, IsFailed, refusal_of};
+ghost use Rattle.consumer_state.specs.Order.{AreRising};
+ghost use Rattle.broker_link.specs.Places.{at_in, place_of};
 
-use crate::Place;
 use crate::known::{known_of, news_of};
 use crate::topics::AssignNo;
-use broker_link::{Edge, Link, TopicPart};
+use broker_link::{Edge, Link, Place, TopicPart};
 use gate_io::{Items, Text};
 use std::alloc::{AllocError, Global};
 

@@ -1,13 +1,12 @@
 ghost use Rattle.std.specs.Prelude.{◌≡◌, ◌+◌, ◌++◌, ◌<◌, ◌≤◌, IfOk, OnOk, List, [], ◌∷◌, filter, length, map, option_map, pos, None};
-ghost use Rattle.model.specs.Log.{is_at};
-ghost use Rattle.model.specs.World.{position_in};
+ghost use Rattle.model.specs.state.Log.{is_at};
+ghost use Rattle.model.specs.state.World.{position_in};
 ghost use Rattle.broker_link.specs.Fetching.{at_of};
-ghost use Rattle.consumer_state.specs.Fixing.{is_new, known_at, merged, next_after};
-ghost use Rattle.consumer_state.specs.Views.{at_in, place_of};
+ghost use Rattle.consumer_state.specs.Fix.{is_new, known_at, merged, next_after};
+ghost use Rattle.broker_link.specs.Places.{at_in, place_of};
 
-use crate::Place;
 use crate::order::copied;
-use broker_link::TopicPart;
+use broker_link::{Place, TopicPart};
 use std::alloc::{AllocError, Global};
 
 fn is_there(place: &Place, part: &TopicPart) -> bool

@@ -1,9 +1,9 @@
 ghost use Rattle.std.specs.Prelude.{◌≡◌, IfOk, OnOk, List, drop, map, not};
 ghost use Rattle.std.specs.List.{position, position_or_len};
-ghost use Rattle.model.specs.Log.{is_at};
-ghost use Rattle.model.specs.World.{is_before};
+ghost use Rattle.model.specs.state.Log.{is_at};
+ghost use Rattle.model.specs.state.World.{is_before};
 ghost use Rattle.broker_link.specs.Fetching.{at_of};
-ghost use Rattle.consumer_state.specs.Sorting.{AreSorted, begins_with, put_at};
+ghost use Rattle.consumer_state.specs.Order.{AreSorted, begins_with, put_at};
 
 use broker_link::TopicPart;
 use gate_io::Text;

@@ -1,14 +1,14 @@
 ghost use Rattle.std.specs.Prelude.{◌≡◌, ◌<◌, IfOk, IfErr, List, ℕ, length, map, take, true};
 ghost use Rattle.std.specs.List.{list_any};
-ghost use Rattle.model.specs.Log.{IsLog};
-ghost use Rattle.model.specs.Rules.{lacking};
+ghost use Rattle.model.specs.state.Log.{IsLog};
+ghost use Rattle.model.specs.step.Rules.{lacking};
 ghost use Rattle.broker_link.specs.Fetching.{at_of};
 ghost use Rattle.broker_link.specs.Replies.{IsGood};
-ghost use Rattle.consumer_state.specs.Lacking.{FitsNext, Pass, count_in, is_beyond, topic_code};
-ghost use Rattle.consumer_state.specs.Linking.{FitsCode, GoesOn, IsCaused, refusal_of};
+ghost use Rattle.consumer_state.specs.Topics.{FitsNext, Pass, is_beyond, topic_code};
+ghost use Rattle.consumer_state.specs.LinkCalls.{FitsCode, GoesOn, IsCaused, refusal_of};
 ghost use Rattle.std.specs.Str.{bytes_eq};
 
-use broker_link::{Link, LinkNo, TopicInfo, TopicPart};
+use broker_link::{Link, LinkNo, TopicPart, count_parts};
 use std::alloc::{AllocError, Global};
 
 /// Why partitions aren't assigned.
@@ -39,15 +39,6 @@ impl From<AllocError> for AssignNo {
 
     fn from(_: AllocError) -> Self {
         AssignNo::Failed(LinkNo::Want)
-    }
-}
-
-fn first_count(infos: &[TopicInfo]) -> Option<usize>
-    ensures { result ≡ count_in infos.now }
-{
-    match infos {
-        [] => None,
-        [info, ..] => Some(info.parts.len()),
     }
 }
 
@@ -82,8 +73,8 @@ fn check_topic<L: Link>(
     ensures code { (L.stand link.old).tells → IsLog (L.stand link.old).log → FitsCode (topic_code (L.stand link.old).log (map at_of parts.now) topic.now) result }
     ensures good { (L.stand link.old).plain → IfErr result (λ no. IsGood (refusal_of no)) }
 {
-    let infos = link.metadata(alloc, Some(topic))?;
-    let Some(count) = first_count(infos.as_slice()) else {
+    let count = count_parts(alloc, link, topic)?;
+    let Some(count) = count else {
         return Err(AssignNo::NoTopic);
     };
     if lists_beyond(parts, topic, count) {

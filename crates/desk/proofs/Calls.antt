@@ -3,33 +3,34 @@ use Rattle.std.proofs.Common.{◌≡◌, ℕ, ◌<◌, Bool, true, false, cond, 
 use Rattle.std.specs.Prelude.{codes, option_map, ◌≢◌, ◌&&◌, ◌⊎◌, bytes_eq, IfSome}
 use Rattle.std.specs.List.{remove}
 use Rattle.std.proofs.lemmas.List.{get_or_default, length-set}
-use Rattle.model.specs.Log.{Log}
-use Rattle.model.specs.World.{Key, is_key, Consumer}
-use Rattle.model.specs.World.Mode.{ByTopics}
-use Rattle.model.specs.Forms.{Forms}
-use Rattle.model.specs.Entry.{Act, Call, Event, Reply}
-use Rattle.model.specs.Entry.Act.{Delete}
-use Rattle.model.specs.Entry.Call.{Of}
-use Rattle.model.specs.Entry.Reply.{Done, Made, Names, Nodes, Offsets, Told, Edged, Listed, Answers, Shown, Unread, Refused, Broker, LinkFault, Want}
-use Rattle.model.specs.Texts.{Response, response_of, error_text, is_retriable}
-use Rattle.model.specs.Acts.{Acts}
-use Rattle.model.specs.Texts.Response.{Empty}
+use Rattle.model.specs.state.Log.{Log}
+use Rattle.model.specs.state.World.{Key, is_key, Consumer}
+use Rattle.model.specs.state.World.Mode.{ByTopics}
+use Rattle.model.specs.state.Forms.{Forms}
+use Rattle.model.specs.state.Entry.{Act, Call, Event, Reply}
+use Rattle.model.specs.state.Entry.Act.{Delete}
+use Rattle.model.specs.state.Entry.Call.{Of}
+use Rattle.model.specs.state.Entry.Reply.{Done, Made, Names, Nodes, Offsets, Told, Edged, Listed, Answers, Shown, Unread, Refused, Broker, LinkFault, Want}
+use Rattle.model.specs.texts.Texts.{Response, response_of, error_text, is_retriable}
+use Rattle.model.specs.step.Acts.{Acts}
+use Rattle.model.specs.texts.Texts.Response.{Empty}
 use Rattle.std.specs.Fmt.{signed_decimal}
 use Rattle.rest_calls.specs.Responses.{response_in}
 use Rattle.rest_codes.specs.declared.response.Reply.{Reply as CodeReply}
 use Rattle.rest_codes.specs.declared.response.Reply.TheVariants as reply
-use Rattle.model.specs.Noted.{live_after, said_of}
+use Rattle.model.specs.history.Noted.{live_after, said_of}
 use Rattle.model.proofs.Moves.{same_from_is_key}
 use Rattle.std.proofs.lemmas.Slice.Eq.{bytes_eq-Decides}
 use Rattle.broker_link.specs.Causes.{Counts}
 use Rattle.instance.specs.Views.{Live}
-use Rattle.consumer_state.specs.Acting.{ActsSo, AreThere, forms}
+use Rattle.rest_replies.specs.Forms.{forms}
+use Rattle.consumer_state.specs.Assign.{ActsSo, AreThere}
 use Rattle.rest_calls.specs.Views.{key_in}
 use Rattle.desk.specs.Keys.{consumer_key, group_in, name_in_call}
 use Rattle.desk.specs.Consumers.{Groups, live_under, consumer_under, AreKeyed, Puts}
-use Rattle.desk.specs.Doing.{Does}
+use Rattle.desk.specs.Action.{Does}
 use Rattle.desk.specs.Shelf.{is_delete_call, is_empty_reply}
-use Rattle.desk.specs.Calling.{CallsSo}
+use Rattle.desk.specs.Call.{CallsSo}
 use Rattle.desk.proofs.ConsumersLemmas.{found_put, others_put}
 
 -- ---- who is live behind a call
@@ -71,6 +72,7 @@ stays_after advertise forms key Delete (Some Done) None c is other = absurd (cc 
 stays_after advertise forms key Delete (Some Done) (Some reply.Empty) c is other = absurd (cc other)
 stays_after advertise forms key Delete (Some Done) (Some (reply.Body media text)) c is other = absurd (cc is)
 stays_after advertise forms key Delete (Some Done) (Some (reply.Error code text)) c is other = absurd (cc is)
+stays_after advertise forms key Delete (Some Done) (Some (reply.NoMethod allow)) c is other = absurd (cc is)
 stays_after advertise forms key Delete (Some Done) (Some reply.Want) c is other = absurd (cc is)
 stays_after advertise forms key act reply said c is other = refl
 

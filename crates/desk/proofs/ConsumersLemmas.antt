@@ -6,15 +6,15 @@ use Rattle.std.specs.Cmp.Lexicographic.{slice_cmp}
 use Rattle.std.specs.Map.{lookup}
 use Rattle.std.specs.Ordering.{nat_cmp}
 use Rattle.std.specs.declared.alloc.Global.{Global}
-use Rattle.model.specs.Entry.{Act, Call, Event}
-use Rattle.model.specs.Entry.Call.{Of}
-use Rattle.model.specs.Log.{Log}
-use Rattle.model.specs.Texts.{Response}
+use Rattle.model.specs.state.Entry.{Act, Call, Event}
+use Rattle.model.specs.state.Entry.Call.{Of}
+use Rattle.model.specs.state.Log.{Log}
+use Rattle.model.specs.texts.Texts.{Response}
 use Rattle.broker_link.specs.Causes.{Counts}
-use Rattle.desk.specs.Doing.{Does}
+use Rattle.desk.specs.Action.{Does}
 use Rattle.desk.specs.Keys.{consumer_key, group_in, name_in_call}
 use Rattle.std.proofs.lemmas.Slice.Eq.{bytes_eq-Decides}
-use Rattle.model.specs.World.{Key, is_key, Consumer, IsConsumer}
+use Rattle.model.specs.state.World.{Key, is_key, Consumer, IsConsumer}
 use Rattle.model.proofs.Moves.{same_from_is_key}
 use Rattle.rest_calls.specs.Views.{key_in}
 use Rattle.instance.specs.Views.{Live}

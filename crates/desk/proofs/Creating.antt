@@ -1,15 +1,15 @@
 -- A call under whose key nobody is live: a Create makes one, and any other is refused.
 use Rattle.std.proofs.Common.{◌≡◌, ℕ, Bool, true, false, List, [], ◌∷◌, ◌++◌, refl, ap, sym, ◌∙◌, subst, arith, inl, inr, Option, Some, None}
 use Rattle.std.specs.Prelude.{ℤ, ◌⊎◌, map, option_map}
-use Rattle.model.specs.Legal.{is_fault, is_refusal}
-use Rattle.model.specs.Log.{Log}
-use Rattle.model.specs.World.{Key, is_key, Settings, Consumer, IsConsumer, fresh}
-use Rattle.model.specs.Entry.{Act, Call, Reply}
-use Rattle.model.specs.Entry.Act.{Create}
-use Rattle.model.specs.Entry.Call.{Of}
-use Rattle.model.specs.Entry.Reply.{Made, Refused, Broker, Want}
-use Rattle.model.specs.Texts.Response.{Wanting}
-use Rattle.model.specs.Acts.{Gone}
+use Rattle.model.specs.history.Legal.{is_fault, is_refusal}
+use Rattle.model.specs.state.Log.{Log}
+use Rattle.model.specs.state.World.{Key, is_key, Settings, Consumer, IsConsumer, fresh}
+use Rattle.model.specs.state.Entry.{Act, Call, Reply}
+use Rattle.model.specs.state.Entry.Act.{Create}
+use Rattle.model.specs.state.Entry.Call.{Of}
+use Rattle.model.specs.state.Entry.Reply.{Made, Refused, Broker, Want}
+use Rattle.model.specs.texts.Texts.Response.{Wanting}
+use Rattle.model.specs.step.Acts.{Gone}
 use Rattle.broker_link.specs.Causes.{Counts}
 use Rattle.broker_link.specs.Replies.{IsCounted}
 use Rattle.rest_calls.specs.Responses.{response_in}
@@ -17,17 +17,17 @@ use Rattle.rest_codes.specs.declared.response.Reply.{Reply as CodeReply}
 use Rattle.rest_codes.specs.declared.response.Reply.TheVariants as reply
 use Rattle.instance.specs.declared.event.Event.{Event as CodeEvent}
 use Rattle.instance.specs.Views.{Live, event_of}
-use Rattle.consumer_state.specs.Acting.{forms}
-use Rattle.consumer_state.specs.Making.{SaysMade}
-use Rattle.consumer_state.specs.Failing.{SaysOrWant}
+use Rattle.rest_replies.specs.Forms.{forms}
+use Rattle.rest_replies.specs.Creation.{SaysMade}
+use Rattle.rest_replies.specs.Failure.{SaysOrWant}
 use Rattle.broker_link.specs.Stands.{Stand}
-use Rattle.model.specs.Entry.{Event}
-use Rattle.model.specs.Texts.{Response}
-use Rattle.model.specs.World.{nobody}
+use Rattle.model.specs.state.Entry.{Event}
+use Rattle.model.specs.texts.Texts.{Response}
+use Rattle.model.specs.state.World.{nobody}
 use Rattle.desk.specs.Consumers.{live_under}
 use Rattle.desk.specs.declared.consumers.Consumers.{Consumers}
 use Rattle.desk.specs.Shelf.{is_create_call, world_in}
-use Rattle.desk.specs.Calling.{CallsSo}
+use Rattle.desk.specs.Call.{CallsSo}
 
 pub is_fresh : (settings : Settings) (moment : ℕ) → IsConsumer (fresh settings moment)
 is_fresh settings moment = record { order = λ i j d less short. absurd (omega (arith, short)); low = λ k d short. absurd (omega (arith, short)); names = λ i j d less short. absurd (omega (arith, short)) }

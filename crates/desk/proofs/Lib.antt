@@ -2,7 +2,6 @@ pub mod ConsumersLemmas
 pub mod Calls
 pub mod Creating
 pub mod Steps
-pub mod Joining
 pub mod Producing
 pub mod Turning
 pub mod Looking

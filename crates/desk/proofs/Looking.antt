@@ -3,18 +3,18 @@ use Rattle.std.proofs.Common.{◌≡◌, ℕ, ◌+◌, ◌≤◌, List, [], ◌�
 use Rattle.std.proofs.lemmas.List.Elements.{All-nil, All-append}
 use Rattle.gate_io.specs.Clocks.{Hand}
 use Rattle.gate_io.specs.Counts.{Rose}
-use Rattle.model.specs.Log.{Log}
-use Rattle.model.specs.World.{World}
-use Rattle.model.specs.Entry.{Call, Entry, Reply}
-use Rattle.model.specs.Legal.{Tally, Run, no_tally, plus}
-use Rattle.model.specs.Served.{EndsIn, Waits}
-use Rattle.model.specs.Noted.{IsTable, said_of}
-use Rattle.model.specs.Texts.{Response, response_of}
+use Rattle.model.specs.state.Log.{Log}
+use Rattle.model.specs.state.World.{World}
+use Rattle.model.specs.state.Entry.{Call, Entry, Reply}
+use Rattle.model.specs.history.Legal.{Tally, Run, no_tally, plus}
+use Rattle.model.specs.history.Served.{EndsIn, Waits}
+use Rattle.model.specs.history.Noted.{IsTable, said_of}
+use Rattle.model.specs.texts.Texts.{Response, response_of}
 use Rattle.model.proofs.Stretches.{run_after}
 use Rattle.broker_link.specs.Causes.{Counts}
 use Rattle.broker_link.specs.Replies.{CountsKept, IsCounted, IsCountedIf, IsGoodIf}
-use Rattle.consumer_state.specs.Acting.{shown}
-use Rattle.desk.specs.Stepping.{AreLow}
+use Rattle.rest_replies.specs.Forms.{shown}
+use Rattle.desk.specs.Step.{AreLow}
 use Rattle.desk.specs.Clocked.{IsClocked, after_turn, behind}
 use Rattle.desk.specs.Runs.{State, Pays, Runs, IsTurn, IsAnswered}
 

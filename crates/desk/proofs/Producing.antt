@@ -1,38 +1,32 @@
 -- A produce is one step of the model, and its reply says what the model answers.
 use Rattle.std.proofs.Common.{◌≡◌, ℕ, ◌^◌, ◌<◌, List, [], map, refl, ap, sym, ◌∙◌, arith, inl, inr, Option, Some, None, Result, Ok, Err}
 use Rattle.std.specs.Prelude.{max, option_map}
-use Rattle.model.specs.Log.{Log, IsLog, Keeps}
-use Rattle.model.specs.Texts.{response_of}
-use Rattle.model.specs.Noted.{said_of}
-use Rattle.model.specs.Entry.{Batch, Call, Given, Placed, Entry, Reply}
-use Rattle.model.specs.Entry.Call.{Produce}
-use Rattle.model.specs.Entry.Reply.{Want as NoMemory}
-use Rattle.model.specs.Texts.Response.{Body}
-use Rattle.model.specs.Fixed.{SameCommits}
-use Rattle.model.specs.Step.{ProduceEnds}
+use Rattle.model.specs.state.Log.{Log, IsLog, Keeps}
+use Rattle.model.specs.texts.Texts.{response_of}
+use Rattle.model.specs.history.Noted.{said_of}
+use Rattle.model.specs.state.Entry.{Batch, Call, Given, Placed, Entry, Reply}
+use Rattle.model.specs.state.Entry.Call.{Produce}
+use Rattle.model.specs.state.Entry.Reply.{Want as NoMemory}
+use Rattle.model.specs.step.Fixed.{SameCommits}
+use Rattle.model.specs.step.Step.{ProduceEnds}
 use Rattle.broker_link.specs.Causes.{Counts}
 use Rattle.broker_link.specs.Replies.{IsCounted as Counted, IsGood as Good}
 use Rattle.rest_calls.specs.Responses.{response_in}
 use Rattle.rest_codes.specs.declared.response.Reply.{Reply as CodeReply}
 use Rattle.rest_codes.specs.declared.response.Reply.TheVariants as reply
-use Rattle.rest_codes.specs.declared.response.Media.TheVariants as media
 use Rattle.broker_link.specs.Replies.{IsCounted, IsGood}
-use Rattle.producer.specs.Replies.{reply_of}
-use Rattle.producer.specs.declared.told.Told.{Told}
-use Rattle.producer.specs.declared.request.ProduceNo.{ProduceNo}
+use Rattle.rest_replies.specs.Answer.{reply_of}
+use Rattle.rest_replies.specs.declared.answer.Told.{Told}
+use Rattle.rest_replies.specs.declared.answer.ProduceNo.{ProduceNo}
 use Rattle.instance.specs.Views.{event_of}
-use Rattle.consumer_state.specs.Acting.{forms}
+use Rattle.rest_replies.specs.Forms.{forms}
 use Rattle.desk.specs.Shelf.{world_in, AreSound}
 use Rattle.broker_link.specs.Stands.{Goes, Stand}
-use Rattle.desk.specs.Stepping.{StepsSo, never, noted}
-use Rattle.desk.specs.Offsets.{SaysAnswer, SaysProduced, offsets_text, plain_batch}
+use Rattle.desk.specs.Step.{StepsSo, no_expiry, noted}
+use Rattle.rest_replies.specs.Offsets.{SaysAnswer, plain_batch}
 use Rattle.desk.specs.declared.consumers.Consumers.{Consumers}
 use Rattle.desk.specs.declared.entry.Entry.{Entry as CodeEntry}
 use Rattle.desk.proofs.Steps.{none_expired, forms_from, caused_by, there_later}
-
-pub says_produced : (placed : List Placed) (text : List ℕ) → text ≡ offsets_text placed → SaysProduced placed (reply.Body media.Plain text)
-unfolding offsets_text
-says_produced placed text is = inl (λ advertise topic forms records. ap (λ (t : List ℕ). Body None t) is)
 
 -- memory may have been wanting for any answer
 want_instead : (a b : Log) (topic : List ℕ) (batch : Batch) (r : Reply) → ProduceEnds a b topic batch (Some r) → ProduceEnds a b topic batch (Some NoMemory)
@@ -70,7 +64,7 @@ answer_of told a b topic records before after well (Err e) said (inr is) counted
 pub produce_step : (advertise : List ℕ) (caller now : ℕ) (topic : List ℕ) (batch : Batch) (a b : Stand) (xs : Consumers) (last moment last2 : ℕ) (e : CodeEntry) (said : CodeReply)
     → Goes a b → (a.tells → SameCommits a.log b.log) → (well : Type 0) → (a.plain → a.tells → IsLog a.log → well) → Answer (a.tells × IsLog a.log) a.log b.log topic batch a.counts b.counts well said
     → AreSound xs → e.caller ≡ caller → e.moment ≡ moment → e.events ≡ [] → (noted e).call ≡ Some (Produce topic batch) → e.round ≡ Some 0 → e.reply ≡ Some said → moment ≡ max now last → moment < 2 ^ 64 → last2 ≡ moment
-    → StepsSo never advertise a (world_in xs last) (noted e) b (world_in xs last2)
+    → StepsSo no_expiry advertise a (world_in xs last) (noted e) b (world_in xs last2)
 produce_step advertise caller now topic batch a b xs last moment last2 e said goes commits well well_is one sound whose when none asked at says latest low still = record {
   goes = goes;
   reply = Some one.answer;

@@ -2,46 +2,47 @@
 use Rattle.std.proofs.Common.{◌≡◌, ℕ, suc, ◌+◌, ◌-◌, ◌^◌, ◌<◌, Bool, true, false, cond, List, [], ◌∷◌, get_or, zero, refl, ap, sym, ◌∙◌, subst, arith, inl, Option, Some, None}
 use Rattle.std.specs.Prelude.{ℤ, bytes_eq, map, max, option_map, length, ◌≢◌, IfSome}
 use Rattle.gate_io.specs.Counts.{Rose}
-use Rattle.model.specs.Log.{TopicPart, Topic, Log, IsLog, Keeps, parts_in}
-use Rattle.model.specs.World.{Key, is_key, Consumer, World, IsConsumer}
-use Rattle.model.specs.World.{Mode}
-use Rattle.model.specs.World.Mode.{Unset, ByTopics, Assigned}
+use Rattle.model.specs.state.Log.{TopicPart, Topic, Log, IsLog, Keeps, parts_in}
+use Rattle.model.specs.state.World.{Key, is_key, Consumer, World, IsConsumer}
+use Rattle.model.specs.state.World.{Mode}
+use Rattle.model.specs.state.World.Mode.{Unset, ByTopics, Assigned}
 use Rattle.model.proofs.Moves.{same_from_is_key}
-use Rattle.model.specs.World.Format.{Binary}
-use Rattle.model.specs.Forms.{Forms, IsForms, Showing}
-use Rattle.model.specs.Forms.Showing.{Text, Unshown}
-use Rattle.model.specs.Entry.{Act, Call, Event, Reply, Entry}
-use Rattle.model.specs.Entry.Act.{Records}
-use Rattle.model.specs.Entry.Call.{Of}
-use Rattle.model.specs.Entry.Event.{Committed, Rebalanced, Reset, Looked}
-use Rattle.model.specs.Entry.Reply.{Broker}
-use Rattle.model.specs.Fixed.{SameCommits, HasPart}
-use Rattle.model.specs.Step.{left, is_by_topics, IsIdle, IsExpired}
-use Rattle.model.specs.Legal.{one_if, Tally, no_tally, plus, entry_tally, events_tally, event_tally, call_tally, is_fault, is_refusal}
-use Rattle.model.specs.Causes.{IsCaused, Rises}
-use Rattle.model.specs.Noted.{IsTable, events_of, said_of}
+use Rattle.model.specs.state.World.Format.{Binary}
+use Rattle.model.specs.state.Forms.{Forms, IsForms, Showing}
+use Rattle.model.specs.state.Forms.Showing.{Text, Unshown}
+use Rattle.model.specs.state.Entry.{Act, Call, Event, Reply, Entry}
+use Rattle.model.specs.state.Entry.Act.{Records}
+use Rattle.model.specs.state.Entry.Call.{Of}
+use Rattle.model.specs.state.Entry.Event.{Committed, Rebalanced, Reset, Looked}
+use Rattle.model.specs.state.Entry.Reply.{Broker}
+use Rattle.model.specs.step.Fixed.{SameCommits, HasPart}
+use Rattle.model.specs.step.Step.{left, is_by_topics, IsIdle, IsExpired}
+use Rattle.model.specs.history.Legal.{one_if, Tally, no_tally, plus, entry_tally, events_tally, event_tally, call_tally, is_fault, is_refusal}
+use Rattle.model.specs.history.Causes.{IsCaused, Rises}
+use Rattle.model.specs.history.Noted.{IsTable, events_of, said_of}
 use Rattle.broker_link.specs.Causes.{Counts}
 use Rattle.broker_link.specs.Replies.{IsCountedIf}
 use Rattle.rest_calls.specs.Responses.{response_in}
-use Rattle.consumer_state.specs.Views.{place_of}
+use Rattle.broker_link.specs.Places.{place_of}
 use Rattle.instance.specs.Views.{event_of}
 use Rattle.instance.specs.declared.event.Event.{Event as CodeEvent}
 use Rattle.instance.specs.declared.event.Event.TheVariants as code
-use Rattle.consumer_state.specs.Acting.{AreThere, forms, shown, shows, totals}
+use Rattle.rest_replies.specs.Forms.{forms, shown, shows}
+use Rattle.consumer_state.specs.Assign.{AreThere, totals}
 use Rattle.desk.specs.Shelf.{consumer_in, world_in, AreSound, AllThere}
-use Rattle.desk.specs.Calling.{CallsSo, OthersStay}
+use Rattle.desk.specs.Call.{CallsSo, OthersStay}
 use Rattle.desk.specs.declared.consumers.Consumers.{Consumers}
 use Rattle.broker_link.specs.Stands.{Goes, Stand}
-use Rattle.desk.specs.Stepping.{noted, never, AreLow, StepsSo}
+use Rattle.desk.specs.Step.{noted, no_expiry, AreLow, StepsSo}
 use Rattle.desk.specs.declared.entry.Entry.{Entry as CodeEntry}
 
 -- ---- the world
 
-not_idle : (moment : ℕ) (o : Option Consumer) → moment < 2 ^ 64 → IsIdle never moment o → ⊥
+not_idle : (moment : ℕ) (o : Option Consumer) → moment < 2 ^ 64 → IsIdle no_expiry moment o → ⊥
 not_idle moment None low idle = idle
 not_idle moment (Some c) low idle = absurd (omega (arith, low, idle))
 
-pub none_expired : (moment : ℕ) (w : World) → moment < 2 ^ 64 → IsExpired never moment w []
+pub none_expired : (moment : ℕ) (w : World) → moment < 2 ^ 64 → IsExpired no_expiry moment w []
 none_expired moment w low = record { rise = λ i j d less short. absurd (omega (arith, short)); each = λ key. (λ e. absurd (cc e), λ idle. absurd (not_idle moment (w.at key) low idle)) }
 
 text_in : Showing → List ℕ
@@ -171,7 +172,7 @@ all_there key xs ys last moment a b keeps others own there = λ other c is. go o
 pub step_of : (advertise : List ℕ) (caller now round : ℕ) (call : Call) (key : Key) (act : Act) (a b : Stand) (xs ys : Consumers) (last moment last2 : ℕ) (e : CodeEntry)
     → call ≡ Of key act → CallsSo advertise key moment round act a.tells a.plain a.counts b.counts (consumer_in xs key) a.log (map event_of e.events) (option_map response_in e.reply) b.log (consumer_in ys key)
     → OthersStay key xs ys → AreSound ys → Goes a b → e.caller ≡ caller → e.moment ≡ moment → (noted e).call ≡ Some call → e.round ≡ Some round → moment ≡ max now last → moment < 2 ^ 64 → last2 ≡ moment
-    → StepsSo never advertise a (world_in xs last) (noted e) b (world_in ys last2)
+    → StepsSo no_expiry advertise a (world_in xs last) (noted e) b (world_in ys last2)
 step_of advertise caller now round call key act a b xs ys last moment last2 e is calls others sound goes whose when called at latest low still = record {
   goes = goes;
   reply = calls.reply;

@@ -4,23 +4,24 @@ use Rattle.std.specs.Prelude.{map, max, option_map, is_none, ◌⊎◌, All}
 use Rattle.std.proofs.lemmas.List.{append_assoc}
 use Rattle.std.proofs.lemmas.List.Elements.{All-nil, All-push}
 use Rattle.gate_io.specs.Clocks.{Hand, after_read, after_pause}
-use Rattle.model.specs.Log.{Log, IsLog}
-use Rattle.model.specs.Forms.{Forms}
-use Rattle.model.specs.World.{Key, Consumer, World}
-use Rattle.model.specs.Entry.{Act, Batch, Call, Event, Reply, Entry, Turn}
-use Rattle.model.specs.Entry.Act.{Create, Delete, Assign, Assignments, Records}
-use Rattle.model.specs.Entry.Call.{Of, Produce}
-use Rattle.model.specs.Entry.Event.{Reset, Looked}
-use Rattle.model.specs.Acts.{Acts, Live, Gone}
-use Rattle.model.specs.Look.{IsLook, IsCut_off, IsWalked, LookEnds, Sends, after_events, at_most, saved_event, placed_event}
-use Rattle.model.specs.Ends.{IsRefused, IsWanting}
-use Rattle.model.specs.Walk.{Walked}
-use Rattle.model.specs.Step.{ProduceEnds, Step, Does, Whole, Starved, left}
-use Rattle.model.specs.Legal.{Tally, no_tally, plus, entry_tally, call_tally, one_if, is_fault, is_refusal}
-use Rattle.model.specs.Causes.{IsCaused}
-use Rattle.consumer_state.specs.Acting.{shown, totals}
-use Rattle.model.specs.Served.{EndsIn}
-use Rattle.model.specs.Noted.{IsTable, Noted, round_of, said_of}
+use Rattle.model.specs.state.Log.{Log, IsLog}
+use Rattle.model.specs.state.Forms.{Forms}
+use Rattle.model.specs.state.World.{Key, Consumer, World}
+use Rattle.model.specs.state.Entry.{Act, Batch, Call, Event, Reply, Entry, Turn}
+use Rattle.model.specs.state.Entry.Act.{Create, Delete, Assign, Assignments, Records}
+use Rattle.model.specs.state.Entry.Call.{Of, Produce}
+use Rattle.model.specs.state.Entry.Event.{Reset, Looked}
+use Rattle.model.specs.step.Acts.{Acts, Live, Gone}
+use Rattle.model.specs.step.Look.{IsLook, IsCut_off, IsWalked, LookEnds, Sends, after_events, at_most, saved_event, placed_event}
+use Rattle.model.specs.step.Ends.{IsRefused, IsWanting}
+use Rattle.model.specs.step.Walk.{Walked}
+use Rattle.model.specs.step.Step.{ProduceEnds, Step, Does, Whole, Starved, left}
+use Rattle.model.specs.history.Legal.{Tally, no_tally, plus, entry_tally, call_tally, one_if, is_fault, is_refusal}
+use Rattle.model.specs.history.Causes.{IsCaused}
+use Rattle.rest_replies.specs.Forms.{shown}
+use Rattle.consumer_state.specs.Assign.{totals}
+use Rattle.model.specs.history.Served.{EndsIn}
+use Rattle.model.specs.history.Noted.{IsTable, Noted, round_of, said_of}
 use Rattle.broker_link.specs.Causes.{Counts}
 use Rattle.broker_link.specs.Replies.{CountsKept, IsCountedIf, IsGoodIf}
 use Rattle.rest_calls.specs.Views.{asked_of}
@@ -28,7 +29,7 @@ use Rattle.rest_calls.specs.Responses.{response_in}
 use Rattle.rest_calls.specs.declared.call.Call.{Call as CodeCall}
 use Rattle.rest_calls.specs.declared.call.Call.TheVariants as call
 use Rattle.rest_codes.specs.declared.response.Reply.{Reply as CodeReply}
-use Rattle.desk.specs.Stepping.{noted, never, StepsSo}
+use Rattle.desk.specs.Step.{noted, no_expiry, StepsSo}
 use Rattle.broker_link.specs.Stands.{Stand}
 use Rattle.desk.specs.Runs.{stood, Pays, IsTurn}
 use Rattle.desk.specs.declared.entry.Entry.{Entry as CodeEntry}
@@ -91,10 +92,10 @@ acts_look code key act is moment turn None a events b c2 gone = absurd (gone_loo
 acts_look code key act is moment turn (Some c) a events b c2 live = live_looks code key act is moment turn c a events b c2 live
 
 -- a step of a consumer's call that has no reply yet
-pub step_looks : (code : CodeCall) (key : Key) (act : Act) → asked_of code ≡ Of key act → (w : World) (a : Log) (e : Entry) (b : Log) (w2 : World) → e.call ≡ Some (asked_of code) → e.reply ≡ None → Step never w a e b w2 → EndsIn e.events e.turn.round
+pub step_looks : (code : CodeCall) (key : Key) (act : Act) → asked_of code ≡ Of key act → (w : World) (a : Log) (e : Entry) (b : Log) (w2 : World) → e.call ≡ Some (asked_of code) → e.reply ≡ None → Step no_expiry w a e b w2 → EndsIn e.events e.turn.round
 step_looks code key act is w a e b w2 asked none step = go step.does
   where
-    go : Whole never w a e b w2 ⊎ Starved w a e b w2 → EndsIn e.events e.turn.round
+    go : Whole no_expiry w a e b w2 ⊎ Starved w a e b w2 → EndsIn e.events e.turn.round
     go (inr starved) = absurd (cc (none, starved.reply))
     go (inl whole) =
         let does : Does e.moment e.turn (Some (Of key act)) a e.events None b (left e.expired w) w2.at =
@@ -134,10 +135,10 @@ same_round : (round : ℕ) (call : Option Call) (asked : Call) (n : ℕ) → cal
 same_round round call asked n called is = let same : Some n ≡ Some round = is ∙ ap (round_of round) called in sym (cc same)
 
 pub turned_of : (asked : Call) (caller : ℕ) (advertise : List ℕ) (now round : ℕ) (a b : Stand) (ticks : Type 0) (w w2 : World) (hand hand2 : Hand) (e : CodeEntry) (said : Option CodeReply)
-    → StepsSo never advertise a w (noted e) b w2 → e.caller ≡ caller → e.moment ≡ max now w.last → (noted e).call ≡ Some asked → e.round ≡ Some round
+    → StepsSo no_expiry advertise a w (noted e) b w2 → e.caller ≡ caller → e.moment ≡ max now w.last → (noted e).call ≡ Some asked → e.round ≡ Some round
     → (ticks → now ≡ (after_read hand).now) → (ticks → hand2 ≡ cond (is_none e.reply) (after_pause 10 (after_read hand)) (after_read hand)) → said ≡ e.reply
-    → ((x : Entry) → x.call ≡ Some asked → x.reply ≡ None → Step never w a.log x b.log w2 → EndsIn x.events x.turn.round)
-    → a.tells → IsLog a.log → IsTurn never caller advertise a.plain ticks asked round (stood w a hand) (option_map response_in said) (stood w2 b hand2)
+    → ((x : Entry) → x.call ≡ Some asked → x.reply ≡ None → Step no_expiry w a.log x b.log w2 → EndsIn x.events x.turn.round)
+    → a.tells → IsLog a.log → IsTurn no_expiry caller advertise a.plain ticks asked round (stood w a hand) (option_map response_in said) (stood w2 b hand2)
 turned_of asked caller advertise now round a b ticks w w2 hand hand2 e said steps whose when called at reads rests says ends told log =
     let one = steps.steps told log in
     let entry = one.entry in
@@ -176,10 +177,10 @@ produce_replies a b topic batch (inr (inl lacks)) = absurd (cc lacks.2)
 produce_replies a b topic batch (inr (inr (inl lacks))) = absurd (cc lacks.3)
 produce_replies a b topic batch (inr (inr (inr failed))) = absurd (cc failed.says)
 
-pub produce_looks : (topic : List ℕ) (batch : Batch) (w : World) (a : Log) (e : Entry) (b : Log) (w2 : World) → e.call ≡ Some (Produce topic batch) → e.reply ≡ None → Step never w a e b w2 → EndsIn e.events e.turn.round
+pub produce_looks : (topic : List ℕ) (batch : Batch) (w : World) (a : Log) (e : Entry) (b : Log) (w2 : World) → e.call ≡ Some (Produce topic batch) → e.reply ≡ None → Step no_expiry w a e b w2 → EndsIn e.events e.turn.round
 produce_looks topic batch w a e b w2 asked none step = absurd (go step.does)
   where
-    go : Whole never w a e b w2 ⊎ Starved w a e b w2 → ⊥
+    go : Whole no_expiry w a e b w2 ⊎ Starved w a e b w2 → ⊥
     go (inr starved) = absurd (cc (none, starved.reply))
     go (inl whole) =
         let does : Does e.moment e.turn (Some (Produce topic batch)) a e.events None b (left e.expired w) w2.at =

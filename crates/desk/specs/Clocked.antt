@@ -1,7 +1,7 @@
 -- The moments of entries by the clock that was read for them, one reading a turn, and its pauses.
 use Rattle.std.specs.Prelude.{ℕ, ◌≡◌, max, cond, is_none, List, [], ◌∷◌}
 use Rattle.gate_io.specs.Clocks.{Hand, after_read, after_pause}
-use Rattle.model.specs.Entry.{Entry}
+use Rattle.model.specs.state.Entry.{Entry}
 
 -- the clock behind the turn of an entry: a look without reply is followed by one pause of 10 ms
 abbrev pub after_turn : Hand → Entry → Hand

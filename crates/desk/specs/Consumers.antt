@@ -2,7 +2,7 @@
 use Rattle.std.specs.Prelude.{ℕ, ◌≡◌, bytes_eq, cond, List, String, option_map, Option, Some, None}
 use Rattle.std.specs.declared.alloc.Global.{Global}
 use Rattle.std.specs.BTreeMap.{BTreeMap, get_by_text}
-use Rattle.model.specs.World.{Key, is_key, Consumer, IsConsumer}
+use Rattle.model.specs.state.World.{Key, is_key, Consumer, IsConsumer}
 use Rattle.instance.specs.Views.{Live}
 
 -- the instances of one group, by their names

@@ -1,8 +1,8 @@
 -- The key of a consumer's call: its group and the name of its instance.
 use Rattle.std.specs.Prelude.{ℕ, List, []}
-use Rattle.model.specs.World.{Key}
-use Rattle.model.specs.Entry.{Call}
-use Rattle.model.specs.Entry.Call.{Of}
+use Rattle.model.specs.state.World.{Key}
+use Rattle.model.specs.state.Entry.{Call}
+use Rattle.model.specs.state.Entry.Call.{Of}
 use Rattle.rest_calls.specs.Views.{key_in}
 
 -- the group of a consumer's call

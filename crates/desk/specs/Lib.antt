@@ -1,9 +1,8 @@
 pub mod Keys
 pub mod Consumers
-pub mod Doing
+pub mod Action
 pub mod Shelf
-pub mod Stepping
-pub mod Calling
-pub mod Offsets
+pub mod Step
+pub mod Call
 pub mod Clocked
 pub mod Runs

@@ -2,24 +2,24 @@
 -- used for `idle` milliseconds expires; `caller` is the number of the one whose calls these are.
 use Rattle.std.specs.Prelude.{ℕ, ◌+◌, ◌≤◌, ◌≡◌, cond, List, [], ◌∷◌, All, Option, Some, None}
 use Rattle.gate_io.specs.Clocks.{Hand}
-use Rattle.model.specs.Log.{IsLog, Log}
-use Rattle.model.specs.World.{World}
-use Rattle.model.specs.Entry.{Call, Entry, Reply}
-use Rattle.model.specs.Entry.Act.{Create}
-use Rattle.model.specs.Entry.Call.{Of}
-use Rattle.model.specs.Legal.{Tally, Run}
-use Rattle.model.specs.Served.{EndsIn, Serves}
-use Rattle.model.specs.Noted.{IsTable, Noted, said_of}
-use Rattle.model.specs.Texts.{Response, response_of}
+use Rattle.model.specs.state.Log.{IsLog, Log}
+use Rattle.model.specs.state.World.{World}
+use Rattle.model.specs.state.Entry.{Call, Entry, Reply}
+use Rattle.model.specs.state.Entry.Act.{Create}
+use Rattle.model.specs.state.Entry.Call.{Of}
+use Rattle.model.specs.history.Legal.{Tally, Run}
+use Rattle.model.specs.history.Served.{EndsIn, Serves}
+use Rattle.model.specs.history.Noted.{IsTable, Noted, said_of}
+use Rattle.model.specs.texts.Texts.{Response, response_of}
 use Rattle.broker_link.specs.Causes.{Counts}
 use Rattle.broker_link.specs.Stands.{Stand}
 use Rattle.broker_link.specs.Replies.{CountsKept, IsCounted, IsCountedIf, IsGoodIf}
 use Rattle.rest_calls.specs.Views.{counted, given_name, is_unnamed, key_in}
 use Rattle.rest_codes.specs.declared.response.Reply.{Reply as CodeReply}
 use Rattle.rest_codes.specs.declared.response.Reply.TheVariants as reply
-use Rattle.consumer_state.specs.Acting.{shown}
+use Rattle.rest_replies.specs.Forms.{shown}
 use Rattle.desk.specs.Shelf.{AllThere, world_in}
-use Rattle.desk.specs.Stepping.{AreLow, StepsSo, never}
+use Rattle.desk.specs.Step.{AreLow, StepsSo, no_expiry}
 use Rattle.desk.specs.Clocked.{IsClocked, behind}
 use Rattle.desk.specs.declared.shard.Shard.{Shard}
 
@@ -40,7 +40,7 @@ state_of stand shard hand = stood (world_in shard.instances shard.last) (stand s
 
 -- one step of a shard, over a link that stands so
 abbrev pub ShardSteps : {L : Type 0} → (L → Stand) → Shard L → Noted → Shard L → Type 0
-ShardSteps stand a noted b = StepsSo never a.advertise (stand a.link) (world_in a.instances a.last) noted (stand b.link) (world_in b.instances b.last)
+ShardSteps stand a noted b = StepsSo no_expiry a.advertise (stand a.link) (world_in a.instances a.last) noted (stand b.link) (world_in b.instances b.last)
 
 -- What the counts rose by pays what the entries owe: a fault or a refusal each, and nothing else is owed.
 pub record Pays (before after : Counts) (owed : Tally) : Type 0 where
@@ -75,7 +75,7 @@ named_so name call = call
 
 -- one more was named, where the call is a Create without a name
 abbrev pub named_after : Call → ℕ → ℕ
-named_after asked unnamed = cond (is_unnamed asked) (counted unnamed) unnamed
+named_after asked names_given = cond (is_unnamed asked) (counted names_given) names_given
 
 -- A call was answered: by its looks without reply and the entry with the reply, of which this is the text. A fault or a
 -- refusal is its answer only where the link counted one meanwhile, and a broker's code is the link's last.
@@ -89,7 +89,7 @@ pub record IsAnswered (idle caller : ℕ) (advertise : List ℕ) (plain ticks : 
 
 -- a call of the one caller of a shard, 0, was answered, from where the clock stood to where it stands
 abbrev pub ShardAnswered : {L C : Type 0} → (L → Stand) → (C → Type 0) → (C → Hand) → Shard L → C → Call → Response → Shard L → C → Type 0
-ShardAnswered stand ticks hand a clock call said b clock2 = IsAnswered never 0 a.advertise (stand a.link).plain (ticks clock) call (state_of stand a (hand clock)) said (state_of stand b (hand clock2))
+ShardAnswered stand ticks hand a clock call said b clock2 = IsAnswered no_expiry 0 a.advertise (stand a.link).plain (ticks clock) call (state_of stand a (hand clock)) said (state_of stand b (hand clock2))
 
 -- the same, where the log is told
 abbrev pub ShardAnswers : {L C : Type 0} → (L → Stand) → (C → Type 0) → (C → Hand) → Shard L → C → Call → Response → Shard L → C → Type 0

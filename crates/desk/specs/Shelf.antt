@@ -1,13 +1,13 @@
 -- The live consumers of a shard, as the model's world.
-use Rattle.model.specs.Entry.{Call}
-use Rattle.model.specs.Entry.Act.{Create, Delete}
-use Rattle.model.specs.Entry.Call.{Of}
+use Rattle.model.specs.state.Entry.{Call}
+use Rattle.model.specs.state.Entry.Act.{Create, Delete}
+use Rattle.model.specs.state.Entry.Call.{Of}
 use Rattle.rest_codes.specs.declared.response.Reply.{Reply}
 use Rattle.rest_codes.specs.declared.response.Reply.TheVariants as reply
 use Rattle.std.specs.Prelude.{ℕ, Bool, true, false, ◌≡◌, Option, Some}
-use Rattle.model.specs.Log.{Log}
-use Rattle.model.specs.World.{Key, Consumer, World, IsConsumer}
-use Rattle.consumer_state.specs.Acting.{AreThere}
+use Rattle.model.specs.state.Log.{Log}
+use Rattle.model.specs.state.World.{Key, Consumer, World, IsConsumer}
+use Rattle.consumer_state.specs.Assign.{AreThere}
 use Rattle.desk.specs.Consumers.{consumer_under}
 use Rattle.desk.specs.declared.consumers.Consumers.{Consumers}
 

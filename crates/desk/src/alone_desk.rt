@@ -1,14 +1,14 @@
 ghost use Rattle.std.specs.Prelude.{◌≡◌, ◌⊎◌, ◌<◌, ◌*◌, ◌^◌, length, option_map, cond, All, Some, None};
 ghost use Rattle.gate_io.specs.Clocks.{after_pause};
 ghost use Rattle.broker_link.specs.Stands.{Goes};
-ghost use Rattle.model.specs.Log.{IsLog};
-ghost use Rattle.model.specs.World.{Key, nobody};
-ghost use Rattle.model.specs.Entry.{Act};
-ghost use Rattle.model.specs.Entry.Call.{Of, Produce};
+ghost use Rattle.model.specs.state.Log.{IsLog};
+ghost use Rattle.model.specs.state.World.{Key, nobody};
+ghost use Rattle.model.specs.state.Entry.{Act};
+ghost use Rattle.model.specs.state.Entry.Call.{Of, Produce};
 ghost use Rattle.rest_calls.specs.Responses.{response_in};
 ghost use Rattle.rest_calls.specs.Views.{asked_of, batch_of, entered, HasFewRecords, HasRecords, NamesPartition, NamesPartitions};
 ghost use Rattle.desk.specs.Shelf.{world_in};
-ghost use Rattle.desk.specs.Stepping.{never};
+ghost use Rattle.desk.specs.Step.{no_expiry};
 ghost use Rattle.desk.specs.Runs.{IsTurn, ShardAnswered, ShardAnswers, Stays, named_after, state_of};
 
 use crate::naming::name_unnamed;
@@ -30,7 +30,7 @@ const PAUSE_MS: u64 = 10;
 #[derive(Drop)]
 pub struct AloneDesk<L> {
     shard: Shard<L>,
-    unnamed: u64,
+    names_given: u64,
 }
 
 /// Pauses after a look without reply.
@@ -64,11 +64,11 @@ impl<L: Link + Drop> AloneDesk<L> {
         ensures advertise { result.shard.advertise ≡ advertise }
         ensures instances { world_in result.shard.instances result.shard.last ≡ nobody }
         ensures last { result.shard.last ≡ 0 }
-        ensures unnamed { result.unnamed ≡ 0 }
+        ensures names_given { result.names_given ≡ 0 }
     {
         AloneDesk {
             shard: Shard::new(alloc, link, advertise),
-            unnamed: 0,
+            names_given: 0,
         }
     }
 
@@ -90,10 +90,10 @@ impl<L: Link + Drop> AloneDesk<L> {
     ) -> Option<Reply>
         requires whose { (key : Key) × (act : Act) × (asked_of call.now ≡ Of key act) }
         ensures turned { (L.stand self.old.shard.link).tells → IsLog (L.stand self.old.shard.link).log
-            → IsTurn never 0 self.old.shard.advertise (L.stand self.old.shard.link).plain (C.tells clock.old) (asked_of call.now) round
+            → IsTurn no_expiry 0 self.old.shard.advertise (L.stand self.old.shard.link).plain (C.tells clock.old) (asked_of call.now) round
             (state_of L.stand self.old.shard (C.hand clock.old)) (option_map response_in result) (state_of L.stand self.new.shard (C.hand clock.new)) }
         ensures waits { result ≡ None → 10 * round < 2 ^ 32 }
-        ensures unnamed { self.new.unnamed ≡ self.old.unnamed }
+        ensures names_given { self.new.names_given ≡ self.old.names_given }
         ensures advertise { self.new.shard.advertise ≡ self.old.shard.advertise }
 
         ensures goes { Goes (L.stand self.old.shard.link) (L.stand self.new.shard.link) }
@@ -110,7 +110,7 @@ impl<L: Link + Drop> AloneDesk<L> {
     fn look_until_answered<C: Clock>(&mut self, alloc: Global, clock: &mut C, call: &Call) -> Reply
         requires whose { (key : Key) × (act : Act) × (asked_of call.now ≡ Of key act) }
         ensures answered { ShardAnswers L.stand C.tells C.hand self.old.shard clock.old (asked_of call.now) (response_in result) self.new.shard clock.new }
-        ensures unnamed { self.new.unnamed ≡ self.old.unnamed }
+        ensures names_given { self.new.names_given ≡ self.old.names_given }
         ensures advertise { self.new.shard.advertise ≡ self.old.shard.advertise }
 
         ensures goes { Goes (L.stand self.old.shard.link) (L.stand self.new.shard.link) }
@@ -139,7 +139,7 @@ impl<L: Link + Drop> AloneDesk<L> {
         requires named { All NamesPartition batch.rows }
         requires whose { asked_of asked.value ≡ Produce topic.now (batch_of batch) }
         ensures answered { ShardAnswers L.stand C.tells C.hand self.old.shard clock.old (Produce topic.now (batch_of batch)) (response_in result) self.new.shard clock.new }
-        ensures unnamed { self.new.unnamed ≡ self.old.unnamed }
+        ensures names_given { self.new.names_given ≡ self.old.names_given }
         ensures advertise { self.new.shard.advertise ≡ self.old.shard.advertise }
 
         ensures goes { Goes (L.stand self.old.shard.link) (L.stand self.new.shard.link) }
@@ -160,15 +160,15 @@ impl<L: Link + Drop> AloneDesk<L> {
         requires few { HasFewRecords call }
         requires named { NamesPartitions call }
         ensures answered { (L.stand self.old.shard.link).tells → IsLog (L.stand self.old.shard.link).log
-            → ShardAnswered L.stand C.tells C.hand self.old.shard clock.old (entered 0 self.old.unnamed (asked_of call)) (response_in result) self.new.shard clock.new
+            → ShardAnswered L.stand C.tells C.hand self.old.shard clock.old (entered 0 self.old.names_given (asked_of call)) (response_in result) self.new.shard clock.new
             ⊎ Stays result self.old.shard self.new.shard clock.old clock.new }
-        ensures unnamed { self.new.unnamed ≡ named_after (asked_of call) self.old.unnamed }
+        ensures names_given { self.new.names_given ≡ named_after (asked_of call) self.old.names_given }
         ensures advertise { self.new.shard.advertise ≡ self.old.shard.advertise }
 
         ensures goes { Goes (L.stand self.old.shard.link) (L.stand self.new.shard.link) }
         ensures ticking { C.tells clock.old → C.tells clock.new }
     {
-        let call = match name_unnamed(alloc, CALLER, &mut self.unnamed, call) {
+        let call = match name_unnamed(alloc, CALLER, &mut self.names_given, call) {
             Ok(call) => call,
             Err(Want) => return Reply::Want,
         };

@@ -1,11 +1,11 @@
 ghost use Rattle.std.specs.Prelude.{◌≡◌, IfNone, IfSome, OnErr, OnOk, Some, None};
-ghost use Rattle.model.specs.World.{Key, IsConsumer};
-ghost use Rattle.model.specs.Entry.{Act};
-ghost use Rattle.model.specs.Entry.Call.{Of};
+ghost use Rattle.model.specs.state.World.{Key, IsConsumer};
+ghost use Rattle.model.specs.state.Entry.{Act};
+ghost use Rattle.model.specs.state.Entry.Call.{Of};
 ghost use Rattle.rest_calls.specs.Views.{asked_of, key_in};
 ghost use Rattle.instance.specs.Passing.{Consults};
 ghost use Rattle.desk.specs.Consumers.{AreKeyed, AreSame, AreSound, Puts, live_under};
-ghost use Rattle.desk.specs.Doing.{DoesAt, Waits};
+ghost use Rattle.desk.specs.Action.{DoesAt, Waits};
 ghost use Rattle.desk.specs.Keys.{consumer_key};
 
 use crate::groups::{act_under, put_under, take_under};

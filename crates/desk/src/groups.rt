@@ -4,7 +4,7 @@ ghost use Rattle.std.specs.BTreeMap.{get_by_text};
 ghost use Rattle.rest_calls.specs.Views.{asked_of, key_in};
 ghost use Rattle.instance.specs.Passing.{Consults};
 ghost use Rattle.desk.specs.Consumers.{AreSame, Puts, PutsName, live_under, named_in};
-ghost use Rattle.desk.specs.Doing.{DoesAt, IsAsked, Waits};
+ghost use Rattle.desk.specs.Action.{DoesAt, IsAsked, Waits};
 ghost use Rattle.desk.specs.Keys.{consumer_key, group_in, name_in_call};
 
 use crate::shelf::{group_of, name_of};

@@ -6,7 +6,6 @@ mod consumers;
 mod entry;
 mod groups;
 mod naming;
-mod offsets;
 mod shard;
 mod shelf;
 

@@ -49,18 +49,18 @@ fn given_name(alloc: Global, caller: u32, count: u64) -> Result<String, AllocErr
 pub(crate) fn name_unnamed(
     alloc: Global,
     caller: u32,
-    unnamed: &mut u64,
+    names_given: &mut u64,
     call: Call,
 ) -> Result<Call, Want>
-    ensures entered { IfOk result (λ c. asked_of c ≡ entered caller unnamed.old (asked_of call)) }
+    ensures entered { IfOk result (λ c. asked_of c ≡ entered caller names_given.old (asked_of call)) }
     ensures same { IfOk result (λ c. is_unnamed (asked_of call) ≡ false → c ≡ call) }
-    ensures unnamed { unnamed.new ≡ named_after (asked_of call) unnamed.old }
+    ensures names_given { names_given.new ≡ named_after (asked_of call) names_given.old }
 {
     if !is_unnamed(&call) {
         return Ok(call);
     }
-    *unnamed = unnamed.saturating_add(1);
-    match given_name(alloc, caller, *unnamed) {
+    *names_given = names_given.saturating_add(1);
+    match given_name(alloc, caller, *names_given) {
         Ok(name) => Ok(with_name(call, Text::from_string(name))),
         Err(AllocError) => Err(Want),
     }

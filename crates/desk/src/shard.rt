@@ -1,31 +1,30 @@
 ghost use Rattle.std.specs.Prelude.{◌≡◌, ◌<◌, ◌*◌, ◌^◌, max, ℕ, List, [], IfNone, IfOk, IfSome, All, length, Some, None, true};
 ghost use Rattle.broker_link.specs.Stands.{IsOnceAtMost};
-ghost use Rattle.model.specs.World.{Key, nobody};
-ghost use Rattle.model.specs.Entry.{Act};
-ghost use Rattle.model.specs.Entry.Call.{Of, Produce};
-ghost use Rattle.model.specs.Noted.{EndsInLook};
+ghost use Rattle.model.specs.state.World.{Key, nobody};
+ghost use Rattle.model.specs.state.Entry.{Act};
+ghost use Rattle.model.specs.state.Entry.Call.{Of, Produce};
+ghost use Rattle.model.specs.history.Noted.{EndsInLook};
 ghost use Rattle.rest_calls.specs.Responses.{response_in};
 ghost use Rattle.rest_calls.specs.Views.{asked_of, batch_of, is_unnamed, NamesPartition};
 ghost use Rattle.instance.specs.Passing.{Consults};
 ghost use Rattle.instance.specs.Views.{events_in, said_in};
 ghost use Rattle.desk.specs.Keys.{consumer_key};
 ghost use Rattle.desk.specs.Shelf.{consumer_in, is_create_call, world_in};
-ghost use Rattle.desk.specs.Calling.{CallsAt, CallsFirst, OthersKept, SameSetup};
-ghost use Rattle.desk.specs.Doing.{Waits};
+ghost use Rattle.desk.specs.Call.{CallsAt, CallsFirst, OthersKept, SameSetup};
+ghost use Rattle.desk.specs.Action.{Waits};
 ghost use Rattle.desk.specs.Runs.{ShardSteps};
-ghost use Rattle.desk.specs.Stepping.{IsEntry, noted};
+ghost use Rattle.desk.specs.Step.{IsEntry, noted};
 
 use crate::Entry;
 use crate::consumers::Consumers;
-use crate::offsets::reply_to;
 use crate::shelf::{group_of, has_deleted, is_create, name_of, settings_in};
 use broker_link::Link;
-use consumer_state::{made, refused};
 use gate_io::{Items, Text, Want};
 use instance::{Instance, Outcome};
 use producer::produce;
 use rest_calls::{Batch, Call, Settings};
 use rest_codes::Reply;
+use rest_replies::{made, refused, reply_to};
 use std::alloc::Global;
 use std::snapshot::Snapshot;
 
@@ -38,17 +37,6 @@ pub struct Shard<L> {
     advertise: Text,
     instances: Consumers,
     last: u64,
-}
-
-/// What came of a call that had no event.
-fn eventless(alloc: Global, reply: Reply) -> Outcome
-    ensures events { result.events ≡ [] }
-    ensures reply { result.reply ≡ Some reply }
-{
-    Outcome {
-        events: Items::new(alloc),
-        reply: Some(reply),
-    }
 }
 
 /// The table of schemas by which rows were shown: none, since no form has schemas yet.
@@ -150,10 +138,10 @@ impl<L: Link + Drop> Shard<L> {
     {
         if is_create(call) {
             let reply = self.create(alloc, moment, call);
-            return eventless(alloc, reply);
+            return Outcome::of_reply(alloc, reply);
         }
         let reply = refused(alloc, 40403);
-        eventless(alloc, reply)
+        Outcome::of_reply(alloc, reply)
     }
 
     /// Does a consumer's call, whether an instance is live under its key or not.

@@ -1,9 +1,9 @@
 ghost use Rattle.std.specs.Prelude.{◌≡◌, ◌&&◌};
-ghost use Rattle.model.specs.World.{Key};
-ghost use Rattle.model.specs.Entry.Call.{Of};
+ghost use Rattle.model.specs.state.World.{Key};
+ghost use Rattle.model.specs.state.Entry.Call.{Of};
 ghost use Rattle.rest_calls.specs.Views.{asked_of};
-ghost use Rattle.model.specs.World.{Settings as Asked};
-ghost use Rattle.model.specs.Entry.Act.{Create};
+ghost use Rattle.model.specs.state.World.{Settings as Asked};
+ghost use Rattle.model.specs.state.Entry.Act.{Create};
 ghost use Rattle.rest_calls.specs.Views.{settings_of};
 ghost use Rattle.desk.specs.Keys.{group_in, name_in_call};
 ghost use Rattle.desk.specs.Shelf.{is_create_call, is_delete_call, is_empty_reply};

@@ -53,7 +53,7 @@ fn cause(reply: &Reply) -> &'static str {
             431 => "431;",
             _ => "?;",
         },
-        Reply::Empty | Reply::Body { .. } | Reply::Want => "?;",
+        Reply::Empty | Reply::Body { .. } | Reply::NoMethod { .. } | Reply::Want => "?;",
     }
 }
 

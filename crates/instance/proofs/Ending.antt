@@ -2,19 +2,19 @@
 use Rattle.std.proofs.Common.{◌≡◌, ℕ, ◌*◌, ◌<◌, ◌≤◌, ◌||◌, Bool, true, false, nat_le, nat_lt, List, [], ◌∷◌, map, length, refl, ap, sym, ◌∙◌, inl, inr, arith, Some, None}
 use Rattle.std.specs.Prelude.{◌⊎◌, IsSome}
 use Rattle.std.proofs.lemmas.Bool.Decides.{nat_tests}
-use Rattle.model.specs.Walk.{Lot, Item, Walked, bytes_of, unwalked, walk, turned}
-use Rattle.model.specs.World.{Consumer, touched}
-use Rattle.model.specs.World.Format.{Binary}
-use Rattle.model.specs.Bodies.{array, item_text}
-use Rattle.model.specs.Entry.Reply.{Shown}
-use Rattle.model.specs.Texts.Response.{Body}
-use Rattle.model.specs.Look.{IsReady, moved}
+use Rattle.model.specs.step.Walk.{Lot, Item, Walked, bytes_of, unwalked, walk, turned}
+use Rattle.model.specs.state.World.{Consumer, touched}
+use Rattle.model.specs.state.World.Format.{Binary}
+use Rattle.model.specs.texts.Bodies.{array, item_text}
+use Rattle.model.specs.state.Entry.Reply.{Shown}
+use Rattle.model.specs.texts.Texts.Response.{Body}
+use Rattle.model.specs.step.Look.{IsReady, moved}
 use Rattle.broker_link.specs.Causes.{Counts}
 use Rattle.broker_link.specs.Replies.{CountsKept, IsCounted}
 use Rattle.model.proofs.Walks.{is_then}
-use Rattle.consumer_state.specs.Acting.{forms}
+use Rattle.rest_replies.specs.Forms.{forms}
 use Rattle.instance.specs.Ending.{IsEnded}
-use Rattle.instance.specs.Lots.{is_enough, rule_of}
+use Rattle.instance.specs.Walk.{is_enough, rule_of}
 
 touched_itself : (c : Consumer) → touched c.last_use c ≡ c
 touched_itself c = refl

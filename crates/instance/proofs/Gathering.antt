@@ -7,20 +7,20 @@ use Rattle.std.proofs.lemmas.List.Elements.{All-map, All-nil, All-cons, All-head
 use Rattle.std.proofs.lemmas.Bool.Decides.{nat_tests}
 use Rattle.std.proofs.lemmas.Slice.Eq.{bytes_eq-Decides}
 use mathlib.Core.List.{IsPrefix}
-use Rattle.model.specs.Log.{TopicPart, is_at, Log, IsLog, Keeps, part_at, from}
-use Rattle.model.specs.Walk.{Place, Lot}
-use Rattle.model.specs.World.{IsInOrder, is_before}
-use Rattle.model.specs.Hand.{AtHand}
-use Rattle.model.specs.Fixed.{HasPart}
+use Rattle.model.specs.state.Log.{TopicPart, is_at, Log, IsLog, Keeps, part_at, from}
+use Rattle.model.specs.step.Walk.{Place, Lot}
+use Rattle.model.specs.state.World.{IsInOrder, is_before}
+use Rattle.model.specs.step.Hand.{AtHand}
+use Rattle.model.specs.step.Fixed.{HasPart}
 use Rattle.model.proofs.Walks.{same_from_is_at}
 use Rattle.model.proofs.Stretches.{keeps_itself}
 use Rattle.broker_link.specs.Fetching.{ask_at, row_of, AreAsks, AreGot, IsFetched, IsGot, HaveAsked}
 use Rattle.broker_link.specs.declared.fetch.FetchFrom.{FetchFrom}
 use Rattle.broker_link.specs.declared.fetch.Fetched.{Fetched}
-use Rattle.consumer_state.specs.declared.place.Place.{Place as CodePlace}
+use Rattle.broker_link.specs.declared.place.Place.{Place as CodePlace}
 use Rattle.instance.specs.Gathering.{asked, GotFrom, HaveAll, IsGotAt, IsHand, IsInside}
-use Rattle.instance.specs.Lots.{HasOffsets, lot_of, lots_of}
-use Rattle.consumer_state.specs.Views.{place_of}
+use Rattle.instance.specs.Walk.{HasOffsets, lot_of, lots_of}
+use Rattle.broker_link.specs.Places.{place_of}
 
 pub if_ok : {T E : Type 0} (r : Result T E) (P Q : T → Type 0) → ((x : T) → P x → Q x) → IfOk r P → IfOk r Q
 if_ok (Ok x) P Q f h = f x h

@@ -2,16 +2,16 @@
 use Rattle.std.proofs.Common.{◌≡◌, ℕ, ◌*◌, List, [], ◌∷◌, ◌++◌, map, length, min, refl, ap, sym, subst, ◌∙◌, inl, inr, arith, Option, Some}
 use Rattle.std.specs.Prelude.{◌⊎◌, option_map}
 use Rattle.std.proofs.lemmas.List.{map-append}
-use Rattle.model.specs.Log.{Log, Row}
-use Rattle.model.specs.Walk.{Place, Lot, unwalked, walk, turned}
-use Rattle.model.specs.World.{Key, Consumer, touched, with_positions}
-use Rattle.model.specs.Entry.{Event}
-use Rattle.model.specs.Entry.Act.{Records}
-use Rattle.model.specs.Entry.Call.{Of}
-use Rattle.model.specs.Entry.Event.{Reset, Looked}
-use Rattle.model.specs.Entry.Reply.{Want as NoMemory}
-use Rattle.model.specs.Texts.{Response}
-use Rattle.model.specs.Look.{LookEnds, after_events, at_most}
+use Rattle.model.specs.state.Log.{Log, Row}
+use Rattle.model.specs.step.Walk.{Place, Lot, unwalked, walk, turned}
+use Rattle.model.specs.state.World.{Key, Consumer, touched, with_positions}
+use Rattle.model.specs.state.Entry.{Event}
+use Rattle.model.specs.state.Entry.Act.{Records}
+use Rattle.model.specs.state.Entry.Call.{Of}
+use Rattle.model.specs.state.Entry.Event.{Reset, Looked}
+use Rattle.model.specs.state.Entry.Reply.{Want as NoMemory}
+use Rattle.model.specs.texts.Texts.{Response}
+use Rattle.model.specs.step.Look.{LookEnds, after_events, at_most}
 use Rattle.broker_link.specs.Causes.{Counts, ComesOf}
 use Rattle.broker_link.specs.Fetching.{rows_in}
 use Rattle.broker_link.specs.Replies.{link_reply}
@@ -25,13 +25,13 @@ use Rattle.rest_codes.specs.declared.response.Reply.{Reply as CodeReply}
 use Rattle.instance.specs.declared.event.Event.{Event as CodeEvent}
 use Rattle.instance.specs.declared.event.Event.TheVariants.{Looked as CodeLooked}
 use Rattle.instance.specs.declared.event.Outcome.{Outcome}
-use Rattle.consumer_state.specs.declared.place.Place.{Place as CodePlace}
-use Rattle.consumer_state.specs.Acting.{forms}
+use Rattle.broker_link.specs.declared.place.Place.{Place as CodePlace}
+use Rattle.rest_replies.specs.Forms.{forms}
 use Rattle.instance.specs.Ending.{IsEnded, IsOver, own_of, turn_of}
-use Rattle.consumer_state.specs.Failing.{SaysOrWant}
+use Rattle.rest_replies.specs.Failure.{SaysOrWant}
 use Rattle.instance.specs.Gathering.{AreGiven, SetsBack}
 use Rattle.instance.specs.Handed.{IsHanded, LooksAtGiven}
-use Rattle.instance.specs.Lots.{lots_of, rule_of}
+use Rattle.instance.specs.Walk.{lots_of, rule_of}
 use Rattle.instance.specs.Views.{events_in, said_in}
 use Rattle.instance.proofs.Looking.{IsMark, Mid, after_resets, ends_untouched, links_of, own_events, with_places}
 use Rattle.instance.proofs.Looking.IsMark.{OneMark}

@@ -2,25 +2,25 @@
 use Rattle.std.proofs.Common.{◌≡◌, ℕ, ◌<◌, ◌&&◌, ◌==◌, Bool, true, false, List, [], ◌∷◌, ◌++◌, map, length, refl, ap, sym, subst, ◌∙◌, inl, inr, arith, Option, Some, None, pos}
 use Rattle.std.specs.Prelude.{◌⊎◌, ◌≢◌, IsTrue, option_map}
 use Rattle.std.proofs.lemmas.List.{append-nil, map-append}
-use Rattle.model.specs.Log.{Log, IsLog, Keeps, TopicPart}
-use Rattle.model.specs.Walk.{Place, Lot, Walked, unwalked, walk, turned}
-use Rattle.model.specs.World.{Key, Format, Consumer, Mode, touched, with_position, with_positions, moved_places}
-use Rattle.model.specs.World.Mode.{ByTopics, Unset, Assigned}
-use Rattle.model.specs.World.Format.{Binary}
-use Rattle.model.specs.Forms.{reason_of}
-use Rattle.model.specs.Hand.{reads_in}
-use Rattle.model.specs.Entry.{Event, Reply, Turn, IsLinks}
-use Rattle.model.specs.Entry.Act.{Records}
-use Rattle.model.specs.Entry.Call.{Of}
-use Rattle.model.specs.Entry.Event.{Reset, Looked}
-use Rattle.model.specs.Entry.Reply.{Want as NoMemory}
-use Rattle.model.specs.Texts.{Response, response_of}
-use Rattle.model.specs.Noted.{said_of, events_of, EndsInLook}
-use Rattle.model.specs.Causes.{IsRebalanced, IsPumped, has_looked, placed_in, Pumped}
-use Rattle.model.specs.Causes.Pumped.{Unpumped}
-use Rattle.model.specs.Fixed.{HasPart, SameCommits}
-use Rattle.model.specs.Produced.{NoneAdded}
-use Rattle.model.specs.Look.{IsCut_off, IsWalked, LookEnds, Looks, Sends, SetBack, after_events, with_assignment, at_most, is_due, moved, rotation_behind}
+use Rattle.model.specs.state.Log.{Log, IsLog, Keeps, TopicPart}
+use Rattle.model.specs.step.Walk.{Place, Lot, Walked, unwalked, walk, turned}
+use Rattle.model.specs.state.World.{Key, Format, Consumer, Mode, touched, with_position, with_positions, moved_places}
+use Rattle.model.specs.state.World.Mode.{ByTopics, Unset, Assigned}
+use Rattle.model.specs.state.World.Format.{Binary}
+use Rattle.model.specs.state.Forms.{reason_of}
+use Rattle.model.specs.step.Hand.{reads_in}
+use Rattle.model.specs.state.Entry.{Event, Reply, Turn, IsLinks}
+use Rattle.model.specs.state.Entry.Act.{Records}
+use Rattle.model.specs.state.Entry.Call.{Of}
+use Rattle.model.specs.state.Entry.Event.{Reset, Looked}
+use Rattle.model.specs.state.Entry.Reply.{Want as NoMemory}
+use Rattle.model.specs.texts.Texts.{Response, response_of}
+use Rattle.model.specs.history.Noted.{said_of, events_of, EndsInLook}
+use Rattle.model.specs.history.Causes.{IsRebalanced, IsPumped, has_looked, placed_in, Pumped}
+use Rattle.model.specs.history.Causes.Pumped.{Unpumped}
+use Rattle.model.specs.step.Fixed.{HasPart, SameCommits}
+use Rattle.model.specs.step.Produced.{NoneAdded}
+use Rattle.model.specs.step.Look.{IsCut_off, IsWalked, LookEnds, Looks, Sends, SetBack, after_events, with_assignment, at_most, is_due, moved, rotation_behind}
 use Rattle.model.proofs.Stretches.{keeps_itself}
 use Rattle.broker_link.specs.Causes.{Counts, ComesOf}
 use Rattle.broker_link.specs.Replies.{CountsKept, IsCounted, IsCountedIf, IsGood, IsGoodIf, link_reply}
@@ -29,18 +29,20 @@ use Rattle.broker_link.specs.declared.link.LinkNo.{LinkNo}
 use Rattle.broker_link.specs.declared.link.LinkNo.TheVariants.{Fault, Refused, Want}
 use Rattle.instance.specs.declared.event.Event.{Event as CodeEvent}
 use Rattle.instance.specs.declared.event.Event.TheVariants.{Reset as CodeReset, Looked as CodeLooked}
-use Rattle.consumer_state.specs.Acting.{ActsSo, AreThere, forms, totals}
+use Rattle.rest_replies.specs.Forms.{forms}
+use Rattle.consumer_state.specs.Assign.{ActsSo, AreThere, totals}
 use Rattle.instance.specs.Ending.{IsEnded, IsOver, own_of, turn_of}
 use Rattle.instance.specs.Gathering.{IsHand, SetsBack}
-use Rattle.instance.specs.Lots.{rule_of}
+use Rattle.instance.specs.Walk.{rule_of}
 use Rattle.instance.specs.Passing.{Passes}
 use Rattle.rest_calls.specs.Views.{settings_of}
 use Rattle.rest_calls.specs.Responses.{response_in}
 use Rattle.rest_codes.specs.declared.response.Reply.{Reply as CodeReply}
 use Rattle.consumer_state.specs.declared.consumer.Consumer.{Consumer as CodeConsumer}
 use Rattle.instance.specs.declared.event.Outcome.{Outcome}
-use Rattle.consumer_state.specs.Failing.{SaysOrWant}
-use Rattle.consumer_state.specs.Views.{consumer_of, mode_of, place_of}
+use Rattle.rest_replies.specs.Failure.{SaysOrWant}
+use Rattle.broker_link.specs.Places.{place_of}
+use Rattle.consumer_state.specs.Views.{consumer_of, mode_of}
 use Rattle.instance.specs.Views.{event_of, events_in, said_in}
 use Rattle.instance.proofs.Gathering.{at_hand}
 use Rattle.instance.proofs.Moving.{ats_moved}
@@ -88,7 +90,7 @@ quiet before after c own mode none = record {
     shared = λ ats e. absurd (cc e);
   };
   ties = λ ats e. absurd (cc e);
-  places = subst (λ o. Rattle.model.specs.Causes.Rebalances c Unpumped None (IsTrue (has_looked own)) o) (sym none) (λ looked. (refl, λ e. absurd (cc e)));
+  places = subst (λ o. Rattle.model.specs.history.Causes.Rebalances c Unpumped None (IsTrue (has_looked own)) o) (sym none) (λ looked. (refl, λ e. absurd (cc e)));
 }
 
 -- ---- the ends
@@ -100,8 +102,8 @@ not_due c round off = go (round == 0)
     go true = ap (λ x. x && c.unsaved) off
     go false = refl
 
-moved_touched : (items : List Rattle.model.specs.Walk.Item) (moment : ℕ) (c : Consumer) → moved items (touched moment c) ≡ touched moment (moved items c)
-moved_touched items moment c = λ i. record { settings = c.settings; mode = c.mode; topics = c.topics; assignment = moved_places items c.assignment; rotation = turn (Rattle.model.specs.World.last_at items) i; unsaved = Rattle.model.specs.Events.or_taken items c.unsaved; last_use = moment }
+moved_touched : (items : List Rattle.model.specs.step.Walk.Item) (moment : ℕ) (c : Consumer) → moved items (touched moment c) ≡ touched moment (moved items c)
+moved_touched items moment c = λ i. record { settings = c.settings; mode = c.mode; topics = c.topics; assignment = moved_places items c.assignment; rotation = turn (Rattle.model.specs.state.World.last_at items) i; unsaved = Rattle.model.specs.step.Events.or_taken items c.unsaved; last_use = moment }
   where
     turn : (o : Option TopicPart) → rotation_behind o (touched moment c) ≡ rotation_behind o c
     turn None = refl

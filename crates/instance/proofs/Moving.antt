@@ -3,20 +3,21 @@ use Rattle.std.proofs.Common.{◌≡◌, ℕ, zero, suc, ◌+◌, ◌-◌, ◌%�
 use Rattle.std.specs.Prelude.{◌^◌, nat_abs}
 use Rattle.std.specs.List.{filter}
 use Rattle.std.proofs.lemmas.List.{get_or-map, map-set, map_more, length-map}
-use Rattle.model.specs.Log.{TopicPart, is_at, Row, after}
-use Rattle.model.specs.Walk.{Place, Lot, Item, rows_at}
+use Rattle.model.specs.state.Log.{TopicPart, is_at, Row, after}
+use Rattle.model.specs.step.Walk.{Place, Lot, Item, rows_at}
 use Rattle.std.proofs.lemmas.List.Elements.{All-cons, All-head, All-tail}
-use Rattle.model.specs.World.{IsLow, IsApart, IsInOrder, Consumer, Mode, moved_places, place_behind, last_at}
-use Rattle.model.specs.Events.{moved, or_taken, rotation_behind}
+use Rattle.model.specs.state.World.{IsLow, IsApart, IsInOrder, Consumer, Mode, moved_places, place_behind, last_at}
+use Rattle.model.specs.step.Events.{moved, or_taken, rotation_behind}
 use Rattle.model.proofs.Walks.{same_from_is_at, is_at_itself, rows_at-push_same, rows_at-push_other}
 use Rattle.model.proofs.Moves.{apart_from_order}
 use Rattle.broker_link.specs.Fetching.{row_of}
 use Rattle.broker_link.specs.declared.link.Stored.{Stored}
 use Rattle.broker_link.specs.declared.fetch.Fetched.{Fetched}
-use Rattle.consumer_state.specs.declared.place.Place.{Place as CodePlace}
+use Rattle.broker_link.specs.declared.place.Place.{Place as CodePlace}
 use Rattle.instance.specs.declared.walk.Pick.{Pick}
-use Rattle.consumer_state.specs.Views.{at_in, place_of, mode_of}
-use Rattle.instance.specs.Lots.{lots_of, item_in, IsPick, stored_in, put_at}
+use Rattle.broker_link.specs.Places.{at_in, place_of}
+use Rattle.consumer_state.specs.Views.{mode_of}
+use Rattle.instance.specs.Walk.{lots_of, item_in, IsPick, stored_in, put_at}
 use Rattle.instance.proofs.Picking.{item_is, pick_within}
 
 abbrev many : TopicPart → List Place → ℕ
@@ -186,8 +187,8 @@ order_kept xs ys same order =
     let n : length ys ≡ length xs = omega (arith, ap length same, length-map xs (λ (p : Place). p.at), length-map ys (λ (p : Place). p.at)) in
     let there : (k : ℕ) → k < length ys → (slice_index_or ys k d).at ≡ (slice_index_or xs k d).at =
     λ k fits. sym (get_or-map (λ (p : Place). p.at) ys k d d.at fits) ∙ (ap (λ ats. slice_index_or ats k d.at) same ∙ get_or-map (λ (p : Place). p.at) xs k d d.at (omega arith)) in
-    subst (λ x. Rattle.model.specs.World.is_before x (slice_index_or ys j d).at ≡ true) (sym (there i (omega arith)))
-    (subst (λ x. Rattle.model.specs.World.is_before (slice_index_or xs i d).at x ≡ true) (sym (there j (omega arith))) (order i j d lt (omega arith)))
+    subst (λ x. Rattle.model.specs.state.World.is_before x (slice_index_or ys j d).at ≡ true) (sym (there i (omega arith)))
+    (subst (λ x. Rattle.model.specs.state.World.is_before (slice_index_or xs i d).at x ≡ true) (sym (there j (omega arith))) (order i j d lt (omega arith)))
 
 pub ats_moved : (items : List Item) (places : List Place) → map (λ (p : Place). p.at) (moved_places items places) ≡ map (λ (p : Place). p.at) places
 ats_moved items [] = refl

@@ -1,6 +1,6 @@
 -- Calls of a link one after the other.
 use Rattle.std.proofs.Common.{◌∙◌, arith}
-use Rattle.model.specs.Produced.{NoneAdded}
+use Rattle.model.specs.step.Produced.{NoneAdded}
 use Rattle.model.proofs.Stretches.{keeps_on}
 use Rattle.broker_link.specs.Causes.{Counts, ComesOf}
 use Rattle.broker_link.specs.Replies.{CountsKept}

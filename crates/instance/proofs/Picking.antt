@@ -1,22 +1,22 @@
 -- What picks name, and the text of what they name.
 use Rattle.std.proofs.Common.{◌≡◌, ℕ, zero, suc, ◌+◌, ◌<◌, ◌≤◌, true, false, cond, List, [], ◌∷◌, ◌++◌, map, length, take, slice_index_or, refl, ap, sym, ◌∙◌, arith, append_assoc, None}
 use Rattle.std.specs.Prelude.{codes, ◌==◌, nat_abs, pos, ℤ, decimal}
-use Rattle.std.proofs.lemmas.Bool.Decides.{nat_tests}
 use Rattle.std.proofs.lemmas.List.{get_or-map, length-map, length-take, map_more, take_all}
 use Rattle.json.specs.Print.{quoted}
-use Rattle.model.specs.Log.{TopicPart, Row}
-use Rattle.model.specs.Walk.{Lot, Item}
-use Rattle.model.specs.World.Format.{Binary}
-use Rattle.model.specs.Bodies.{array, joined, item_text}
+use Rattle.model.specs.state.Log.{TopicPart, Row}
+use Rattle.model.specs.step.Walk.{Lot, Item}
+use Rattle.model.specs.state.World.Format.{Binary}
+use Rattle.model.specs.texts.Bodies.{array, joined, item_text}
 use Rattle.broker_link.specs.Fetching.{row_of}
 use Rattle.broker_link.specs.declared.link.Stored.{Stored}
 use Rattle.broker_link.specs.declared.fetch.Fetched.{Fetched}
-use Rattle.consumer_state.specs.declared.place.Place.{Place as CodePlace}
+use Rattle.broker_link.specs.declared.place.Place.{Place as CodePlace}
 use Rattle.instance.specs.declared.walk.Pick.{Pick}
-use Rattle.consumer_state.specs.Acting.{forms}
-use Rattle.instance.specs.Items.{bytes_text, front_text, place_text, quoted_topics}
-use Rattle.consumer_state.specs.Views.{at_in}
-use Rattle.instance.specs.Lots.{lot_of, lots_of, lot_at, item_in, IsPick, HasRow, HasOffsets, IsOffset, stored_in}
+use Rattle.rest_replies.specs.Forms.{forms}
+use Rattle.rest_replies.proofs.JoinedLemmas.{joined_push}
+use Rattle.instance.specs.Items.{quoted_topics}
+use Rattle.broker_link.specs.Places.{at_in}
+use Rattle.instance.specs.Walk.{lot_of, lots_of, lot_at, item_in, IsPick, HasRow, HasOffsets, IsOffset, stored_in}
 use Rattle.std.specs.List.{All}
 
 abbrev no_fetched : Fetched
@@ -69,21 +69,6 @@ item_is places fetched p d same pick =
     ap (λ (l : Lot). record { at = l.place.at; row = slice_index_or l.rows p.row none }) lot
     ∙ ap (λ (r : Row). record { at = at_in (slice_index_or places p.lot d); row = r }) (get_or-map row_of f.rows p.row no_stored none within)
 
--- the text of a record
-pub text_is : (at : TopicPart) (s : Stored) → front_text (quoted at.topic) s.key s.value ++ place_text at.partition (nat_abs s.offset) ≡ item_text forms Binary (record { at = at; row = row_of s })
-unfolding front_text place_text bytes_text
-text_is at s = simp append_assoc
-
-joined_more : (xs : List (List ℕ)) (y z : List ℕ) → joined (y ∷ (xs ++ z ∷ [])) ≡ joined (y ∷ xs) ++ (codes "," ++ z)
-joined_more [] y z = refl
-joined_more (x ∷ xs) y z =
-    let ih : joined (x ∷ (xs ++ z ∷ [])) ≡ joined (x ∷ xs) ++ (codes "," ++ z) = joined_more xs x z in
-    ap (λ l. y ++ (codes "," ++ l)) ih ∙ sym (append_assoc y (codes "," ++ joined (x ∷ xs)) (codes "," ++ z))
-
-joined_push : (xs : List (List ℕ)) (z : List ℕ) (i : ℕ) → length xs ≡ i → joined (xs ++ z ∷ []) ≡ joined xs ++ (cond (i == 0) [] (codes ",") ++ z)
-joined_push [] z i e = let is : (i == 0) ≡ true = grind (arith, nat_tests) in rw is refl
-joined_push (x ∷ xs) z i e = let is : (i == 0) ≡ false = grind (arith, nat_tests) in rw is (joined_more xs x z)
-
 -- the text of one row more
 pub texts_more : (lots : List Lot) (picks : List Pick) (i : ℕ) (p d : Pick) (text more : List ℕ) → i < length picks → p ≡ slice_index_or picks i d
     → text ≡ codes "[" ++ joined (map (item_text forms Binary) (map (item_in lots) (take i picks)))
@@ -112,17 +97,20 @@ texts_whole lots picks i text whole le is added =
 pub topics_within : (places : List CodePlace) (topics : List (List ℕ)) (i : ℕ) → topics ≡ quoted_topics places → i < length places → i < length topics
 topics_within places topics i are lt = omega (arith, ap length are, length-map places (λ (p : CodePlace). quoted p.topic))
 
+-- the topic of a pick's lot, as a JSON string
+pub quoted_topic : (places : List CodePlace) (topics : List (List ℕ)) (p : Pick) (place : CodePlace) (topic : List ℕ) → topics ≡ quoted_topics places → p.lot < length places
+    → place ≡ slice_index_or places p.lot place → topic ≡ slice_index_or topics p.lot topic → topic ≡ quoted place.topic
+quoted_topic places topics p place topic are lt is found =
+    found ∙ (ap (λ (ts : List (List ℕ)). slice_index_or ts p.lot topic) are ∙ (get_or-map (λ (x : CodePlace). quoted x.topic) places p.lot place topic lt ∙ ap (λ (x : CodePlace). quoted x.topic) (sym is)))
+
 -- the text of what a pick names, by what was read for it
-pub item_text_is : (places : List CodePlace) (fetched : List Fetched) (topics : List (List ℕ)) (p : Pick) (place : CodePlace) (partition : ℤ) (topic : List ℕ) (s : Stored)
-    → length fetched ≡ length places → IsPick (lots_of places fetched) p → topics ≡ quoted_topics places → p.lot < length places
-    → place ≡ slice_index_or places p.lot place → partition ≡ place.partition → topic ≡ slice_index_or topics p.lot topic → s ≡ stored_in fetched p
-    → front_text topic s.key s.value ++ place_text (nat_abs partition) (nat_abs s.offset) ≡ item_text forms Binary (item_in (lots_of places fetched) p)
-item_text_is places fetched topics p place partition topic s same pick are lt is part_is topic_is row_is =
-    let named : topic ≡ quoted place.topic = topic_is ∙ (ap (λ (ts : List (List ℕ)). slice_index_or ts p.lot topic) are ∙ (get_or-map (λ (x : CodePlace). quoted x.topic) places p.lot place topic lt ∙ ap (λ (x : CodePlace). quoted x.topic) (sym is))) in
+pub item_text_is : (places : List CodePlace) (fetched : List Fetched) (p : Pick) (place : CodePlace) (partition : ℤ) (s : Stored)
+    → length fetched ≡ length places → IsPick (lots_of places fetched) p → place ≡ slice_index_or places p.lot place → partition ≡ place.partition → s ≡ stored_in fetched p
+    → item_text forms Binary (record { at = record { topic = place.topic; partition = nat_abs partition }; row = row_of s }) ≡ item_text forms Binary (item_in (lots_of places fetched) p)
+item_text_is places fetched p place partition s same pick is part_is row_is =
     let item : item_in (lots_of places fetched) p ≡ record { at = at_in place; row = row_of s } =
     item_is places fetched p place same pick ∙ (ap (λ (x : CodePlace). record { at = at_in x; row = row_of (stored_in fetched p) }) (sym is) ∙ ap (λ (x : Stored). record { at = at_in place; row = row_of x }) (sym row_is)) in
-    ap (λ n. front_text topic s.key s.value ++ place_text (nat_abs n) (nat_abs s.offset)) part_is
-    ∙ ap (λ l. front_text l s.key s.value ++ place_text (nat_abs place.partition) (nat_abs s.offset)) named ∙ (text_is (at_in place) s ∙ ap (item_text forms Binary) (sym item))
+    ap (λ (n : ℤ). item_text forms Binary (record { at = record { topic = place.topic; partition = nat_abs n }; row = row_of s })) part_is ∙ ap (item_text forms Binary) (sym item)
 
 -- the same with the comma put first
 pub item_more : (lots : List Lot) (picks : List Pick) (i : ℕ) (p d : Pick) (text mid more : List ℕ) → i < length picks → p ≡ slice_index_or picks i d
@@ -131,12 +119,6 @@ pub item_more : (lots : List Lot) (picks : List Pick) (i : ℕ) (p d : Pick) (te
     → more ≡ codes "[" ++ joined (map (item_text forms Binary) (map (item_in lots) (take (i + 1) picks)))
 item_more lots picks i p d text mid more lt here is comma added =
     texts_more lots picks i p d text more lt here is (added ∙ (ap (λ l. l ++ item_text forms Binary (item_in lots p)) comma ∙ append_assoc text (cond (i == 0) [] (codes ",")) (item_text forms Binary (item_in lots p))))
-
--- where a record stands, put in pieces
-pub place_put : (partition offset : ℕ) (a b c d e f p o : List ℕ) → b ≡ a ++ codes ",\"partition\":" → c ≡ b ++ p → d ≡ c ++ codes ",\"offset\":" → e ≡ d ++ o → f ≡ e ++ codes "}"
-    → p ≡ decimal partition → o ≡ decimal offset → f ≡ a ++ place_text partition offset
-unfolding place_text
-place_put partition offset a b c d e f p o first second third fourth fifth p_is o_is = rw (fifth, fourth, third, second, first, p_is, o_is) (simp append_assoc)
 
 -- the offset of a record that came is that of an INT64
 pub stored_offset : (fetched : List Fetched) (p : Pick) → All HasOffsets fetched → HasRow fetched p → IsOffset (stored_in fetched p)

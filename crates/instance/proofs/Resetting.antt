@@ -3,18 +3,18 @@ use Rattle.std.proofs.Common.{◌≡◌, ℕ, ◌+◌, ◌<◌, List, [], ◌∷
 use Rattle.std.specs.Prelude.{nat_abs}
 use Rattle.std.specs.List.{All, AllZip}
 use Rattle.std.proofs.lemmas.List.{take_more, get_or-map, length-map, map-append, map_push, append-nil}
-use Rattle.model.specs.Log.{TopicPart, Log, IsLog, Keeps}
-use Rattle.model.specs.Walk.{Place}
-use Rattle.model.specs.World.{Edge}
-use Rattle.model.specs.Entry.Event.{Reset}
-use Rattle.model.specs.Fixed.{Edges, HasPart, edge_of}
+use Rattle.model.specs.state.Log.{TopicPart, Log, IsLog, Keeps}
+use Rattle.model.specs.step.Walk.{Place}
+use Rattle.model.specs.state.World.{Edge}
+use Rattle.model.specs.state.Entry.Event.{Reset}
+use Rattle.model.specs.step.Fixed.{Edges, HasPart, edge_of}
 use Rattle.model.proofs.Stretches.{keeps_itself, keeps_on}
 use Rattle.broker_link.specs.declared.fetch.Fetched.{Fetched}
-use Rattle.consumer_state.specs.declared.place.Place.{Place as CodePlace}
+use Rattle.broker_link.specs.declared.place.Place.{Place as CodePlace}
 use Rattle.instance.specs.declared.event.Event.{Event as CodeEvent}
 use Rattle.instance.specs.Ending.{own_of}
 use Rattle.instance.specs.Gathering.{AreTold, EdgesTold, IsEdgeIf, news_of, put_all, put_maybe}
-use Rattle.consumer_state.specs.Views.{place_of}
+use Rattle.broker_link.specs.Places.{place_of}
 
 news_push : (ps : List Place) (os : List (Option ℤ)) (p : Place) (o : Option ℤ) → length os ≡ length ps → news_of (ps ++ p ∷ []) (os ++ o ∷ []) ≡ news_of ps os ++ news_of (p ∷ []) (o ∷ [])
 news_push [] [] p o same = refl

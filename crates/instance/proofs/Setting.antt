@@ -5,12 +5,12 @@ use Rattle.std.specs.List.{All, AllPairs, AllZip}
 use Rattle.std.proofs.lemmas.List.{get_or-map, length-map}
 use Rattle.std.proofs.lemmas.List.Elements.{All-nil, All-cons, All-head, All-tail}
 use Rattle.std.proofs.lemmas.List.Kept.{AllPairs-cons}
-use Rattle.model.specs.Log.{TopicPart, is_at, Log, IsLog, Keeps}
-use Rattle.model.specs.Walk.{Place}
-use Rattle.model.specs.World.{Edge, IsInOrder, position_in, with_position, with_positions}
-use Rattle.model.specs.World.Edge.{Start, End}
-use Rattle.model.specs.Fixed.{Edges, HasPart, IsOutside, Resets, edge_of}
-use Rattle.model.specs.Look.{SetBack}
+use Rattle.model.specs.state.Log.{TopicPart, is_at, Log, IsLog, Keeps}
+use Rattle.model.specs.step.Walk.{Place}
+use Rattle.model.specs.state.World.{Edge, IsInOrder, position_in, with_position, with_positions}
+use Rattle.model.specs.state.World.Edge.{Start, End}
+use Rattle.model.specs.step.Fixed.{Edges, HasPart, IsOutside, Resets, edge_of}
+use Rattle.model.specs.step.Look.{SetBack}
 use Rattle.model.proofs.Walks.{same_from_is_at, is_at_itself, is_then, is_else}
 use Rattle.model.proofs.Stretches.{keeps_on}
 use Rattle.broker_link.specs.declared.fetch.Fetched.{Fetched}

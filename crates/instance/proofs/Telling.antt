@@ -1,18 +1,18 @@
 -- From the reply to a call that asks the link nothing to what the call does and answers.
 use Rattle.std.proofs.Common.{◌≡◌, ℕ, false, List, [], map, refl, ap, sym, subst, inl, inr, Option, Some}
 use Rattle.std.specs.Prelude.{◌⊎◌, ◌≢◌}
-use Rattle.model.specs.Log.{TopicPart, Log, IsLog}
-use Rattle.model.specs.Walk.{Place}
-use Rattle.model.specs.World.{Key, Consumer, touched}
-use Rattle.model.specs.World.Mode.{ByTopics}
-use Rattle.model.specs.Entry.{Act, Event, Reply, Turn}
-use Rattle.model.specs.Entry.Act.{Create, Delete, Assign, Assignments, Records}
-use Rattle.model.specs.Entry.Call.{Of}
-use Rattle.model.specs.Entry.Reply.{Done, Listed, Refused, Want}
-use Rattle.model.specs.Acts.{Live}
-use Rattle.model.specs.Legal.{is_fault, is_refusal}
-use Rattle.model.specs.Noted.{live_after}
-use Rattle.model.specs.Texts.{Response, response_of}
+use Rattle.model.specs.state.Log.{TopicPart, Log, IsLog}
+use Rattle.model.specs.step.Walk.{Place}
+use Rattle.model.specs.state.World.{Key, Consumer, touched}
+use Rattle.model.specs.state.World.Mode.{ByTopics}
+use Rattle.model.specs.state.Entry.{Act, Event, Reply, Turn}
+use Rattle.model.specs.state.Entry.Act.{Create, Delete, Assign, Assignments, Records}
+use Rattle.model.specs.state.Entry.Call.{Of}
+use Rattle.model.specs.state.Entry.Reply.{Done, Listed, Refused, Want}
+use Rattle.model.specs.step.Acts.{Live}
+use Rattle.model.specs.history.Legal.{is_fault, is_refusal}
+use Rattle.model.specs.history.Noted.{live_after}
+use Rattle.model.specs.texts.Texts.{Response, response_of}
 use Rattle.rest_calls.specs.Responses.{response_in}
 use Rattle.rest_calls.specs.Views.{asked_of}
 use Rattle.rest_calls.specs.declared.call.Call.{Call}
@@ -21,10 +21,12 @@ use Rattle.rest_codes.specs.declared.response.Reply.{Reply as CodeReply}
 use Rattle.broker_link.specs.Causes.{Counts}
 use Rattle.broker_link.specs.declared.fetch.TopicPart.{TopicPart as Part}
 use Rattle.broker_link.specs.Replies.{IsGood}
-use Rattle.consumer_state.specs.Acting.{ActsSo, forms, totals}
-use Rattle.consumer_state.specs.Failing.{Says, SaysOrWant}
+use Rattle.rest_replies.specs.Forms.{forms}
+use Rattle.consumer_state.specs.Assign.{ActsSo, totals}
+use Rattle.rest_replies.specs.Failure.{Says, SaysOrWant}
 use Rattle.instance.specs.Telling.{TellsSo}
-use Rattle.consumer_state.specs.Views.{at_in, consumer_of}
+use Rattle.broker_link.specs.Places.{at_in}
+use Rattle.consumer_state.specs.Views.{consumer_of}
 use Rattle.instance.specs.Views.{Live as Seen}
 use Rattle.consumer_state.specs.declared.consumer.Consumer.{Consumer as Kept}
 use Rattle.consumer_state.proofs.Fixing.{ats_are}

@@ -5,9 +5,9 @@ use Rattle.std.specs.List.{All, AllZip, RotatedLeft}
 use Rattle.std.proofs.Math.Seq.{drop-append_seam, take-append_seam}
 use Rattle.std.proofs.lemmas.List.{get_or-map, length-map, length-drop, map-append, take-append-drop, take-map}
 use Rattle.std.proofs.lemmas.List.Elements.{All-nil, All-cons, All-head, All-tail, All-append}
-use Rattle.model.specs.Log.{is_at, Log, from}
-use Rattle.model.specs.Walk.{Place, turned}
-use Rattle.model.specs.World.{IsInOrder}
+use Rattle.model.specs.state.Log.{is_at, Log, from}
+use Rattle.model.specs.step.Walk.{Place, turned}
+use Rattle.model.specs.state.World.{IsInOrder}
 use Rattle.broker_link.specs.Fetching.{ask_at, AreAsks, AreInTurn, rows_in, rows_in_turn}
 use Rattle.broker_link.specs.declared.fetch.FetchFrom.{FetchFrom}
 use Rattle.broker_link.specs.declared.fetch.Fetched.{Fetched}

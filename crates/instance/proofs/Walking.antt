@@ -2,20 +2,20 @@
 use Rattle.std.proofs.Common.{◌≡◌, ℕ, zero, suc, ◌+◌, ◌-◌, ◌++◌, take, ◌<◌, ◌≤◌, ◌&&◌, ◌||◌, Bool, true, false, nat_le, nat_lt, List, [], ◌∷◌, map, length, drop, slice_index_or, refl, ap, sym, ◌∙◌, arith, Option, Some, None}
 use Rattle.std.proofs.lemmas.List.{drop_more, take_rest, get_or-map, length-map, map_push}
 use Rattle.std.proofs.lemmas.List.Sums.{sum_by_push}
-use Rattle.model.specs.Log.{TopicPart, Row}
-use Rattle.model.specs.World.Format.{Binary}
-use Rattle.model.specs.Forms.{reason_of}
-use Rattle.model.specs.Hand.{reads_in}
-use Rattle.model.specs.Walk.{Lot, Item, Rule, Walked, with_row, is_full, turned, walk, walk_part, bytes_of, size_of}
+use Rattle.model.specs.state.Log.{TopicPart, Row}
+use Rattle.model.specs.state.World.Format.{Binary}
+use Rattle.model.specs.state.Forms.{reason_of}
+use Rattle.model.specs.step.Hand.{reads_in}
+use Rattle.model.specs.step.Walk.{Lot, Item, Rule, Walked, with_row, is_full, turned, walk, walk_part, bytes_of, size_of}
 use Rattle.model.proofs.Walks.{is_then, is_else, walk-on, walk-stopped}
 use Rattle.broker_link.specs.Fetching.{row_of}
 use Rattle.broker_link.specs.declared.link.Stored.{Stored}
 use Rattle.broker_link.specs.declared.fetch.Fetched.{Fetched}
-use Rattle.consumer_state.specs.declared.place.Place.{Place as CodePlace}
+use Rattle.broker_link.specs.declared.place.Place.{Place as CodePlace}
 use Rattle.instance.specs.declared.walk.Pick.{Pick}
 use Rattle.instance.specs.declared.walk.Walk.{Walk}
-use Rattle.consumer_state.specs.Acting.{forms}
-use Rattle.instance.specs.Lots.{lot_of, lots_of, lot_at, item_in, seen, rule_of}
+use Rattle.rest_replies.specs.Forms.{forms}
+use Rattle.instance.specs.Walk.{lot_of, lots_of, lot_at, item_in, seen, rule_of}
 
 pub length-lots_of : (places : List CodePlace) (fetched : List Fetched) → length fetched ≡ length places → length (lots_of places fetched) ≡ length places
 length-lots_of [] fetched same = refl

@@ -1,28 +1,30 @@
 -- Want of memory may be the answer of any call, which then does nothing but use the consumer.
 use Rattle.std.proofs.Common.{◌≡◌, ℕ, Bool, true, false, List, [], ◌∷◌, map, refl, inl, inr, ap, sym, subst, arith, Option, Some, None}
 use Rattle.std.specs.Prelude.{pos, ◌&&◌, ◌==◌, ◌≢◌}
-use Rattle.model.specs.Log.{Log, IsLog}
-use Rattle.model.specs.Walk.{Place}
-use Rattle.model.specs.World.{Key, Format, Consumer, touched}
-use Rattle.model.specs.World.Mode.{ByTopics}
-use Rattle.model.specs.Entry.{Act, Turn}
-use Rattle.model.specs.Entry.Act.{Create, Delete, Assign, Assignments, Records}
-use Rattle.model.specs.Entry.Call.{Of}
-use Rattle.model.specs.Entry.Reply.{Want}
-use Rattle.model.specs.Fixed.{SameCommits}
-use Rattle.model.specs.Look.{is_due, IsLook, Looks}
-use Rattle.model.specs.Acts.{Live}
-use Rattle.model.specs.Legal as legal
-use Rattle.model.specs.Causes.Pumped.{Unpumped}
-use Rattle.model.specs.Noted.{live_after, LooksWell}
+use Rattle.model.specs.state.Log.{Log, IsLog}
+use Rattle.model.specs.step.Walk.{Place}
+use Rattle.model.specs.state.World.{Key, Format, Consumer, touched}
+use Rattle.model.specs.state.World.Mode.{ByTopics}
+use Rattle.model.specs.state.Entry.{Act, Turn}
+use Rattle.model.specs.state.Entry.Act.{Create, Delete, Assign, Assignments, Records}
+use Rattle.model.specs.state.Entry.Call.{Of}
+use Rattle.model.specs.state.Entry.Reply.{Want}
+use Rattle.model.specs.step.Fixed.{SameCommits}
+use Rattle.model.specs.step.Look.{is_due, IsLook, Looks}
+use Rattle.model.specs.step.Acts.{Live}
+use Rattle.model.specs.history.Legal as legal
+use Rattle.model.specs.history.Causes.Pumped.{Unpumped}
+use Rattle.model.specs.history.Noted.{live_after, LooksWell}
 use Rattle.model.proofs.Stretches.{keeps_itself}
 use Rattle.rest_calls.specs.Views.{asked_of}
 use Rattle.rest_calls.specs.declared.call.Call.{Call}
 use Rattle.rest_calls.specs.declared.call.Call.TheVariants as call
 use Rattle.broker_link.specs.Causes.{Counts}
-use Rattle.model.specs.Texts.Response.{Wanting}
-use Rattle.consumer_state.specs.Acting.{ActsSo, forms, totals}
-use Rattle.consumer_state.specs.Views.{place_of, mode_of, consumer_of}
+use Rattle.model.specs.texts.Texts.Response.{Wanting}
+use Rattle.rest_replies.specs.Forms.{forms}
+use Rattle.consumer_state.specs.Assign.{ActsSo, totals}
+use Rattle.broker_link.specs.Places.{place_of}
+use Rattle.consumer_state.specs.Views.{mode_of, consumer_of}
 use Rattle.instance.specs.Views.{Live as Seen, event_of}
 use Rattle.consumer_state.specs.declared.consumer.Consumer.{Consumer as Kept}
 use Rattle.instance.specs.declared.event.Event.{Event as CodeEvent}

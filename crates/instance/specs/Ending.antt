@@ -1,20 +1,20 @@
 -- How a look ends that its walk ends (Confluent REST Proxy API v2, consumer records).
 use Rattle.std.specs.Prelude.{ℕ, ◌≡◌, ◌⊎◌, ◌++◌, List, [], ◌∷◌, Option, Some}
-use Rattle.model.specs.Walk.{Lot, unwalked, walk, turned}
-use Rattle.model.specs.World.{Consumer}
-use Rattle.model.specs.Entry.{Call, Event, Reply, Turn}
-use Rattle.model.specs.Entry.Event.{Reset, Looked}
-use Rattle.model.specs.Texts.{Response}
-use Rattle.model.specs.Noted.{said_of}
-use Rattle.model.specs.Look.{LookEnds}
+use Rattle.model.specs.step.Walk.{Lot, unwalked, walk, turned}
+use Rattle.model.specs.state.World.{Consumer}
+use Rattle.model.specs.state.Entry.{Call, Event, Reply, Turn}
+use Rattle.model.specs.state.Entry.Event.{Reset, Looked}
+use Rattle.model.specs.texts.Texts.{Response}
+use Rattle.model.specs.history.Noted.{said_of}
+use Rattle.model.specs.step.Look.{LookEnds}
 use Rattle.broker_link.specs.Causes.{Counts}
 use Rattle.broker_link.specs.Replies.{CountsKept, IsCountedIf, IsGoodIf}
 use Rattle.instance.specs.declared.event.Event.{Event as CodeEvent}
 use Rattle.instance.specs.declared.event.Event.TheVariants.{Reset as CodeReset, Looked as CodeLooked}
 use Rattle.consumer_state.specs.declared.consumer.Consumer.{Consumer as CodeConsumer}
-use Rattle.consumer_state.specs.Acting.{forms}
-use Rattle.instance.specs.Lots.{rule_of}
-use Rattle.consumer_state.specs.Views.{place_of}
+use Rattle.rest_replies.specs.Forms.{forms}
+use Rattle.instance.specs.Walk.{rule_of}
+use Rattle.broker_link.specs.Places.{place_of}
 use Rattle.instance.specs.Views.{said_in}
 use Rattle.instance.specs.declared.event.Outcome.{Outcome}
 use Rattle.rest_codes.specs.declared.response.Reply.TheVariants as reply

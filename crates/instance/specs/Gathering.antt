@@ -2,18 +2,18 @@
 use mathlib.Core.List.{IsPrefix}
 use Rattle.std.specs.List.{AllZip}
 use Rattle.std.specs.Prelude.{ℕ, ℤ, ◌<◌, ◌≤◌, ◌≡◌, ◌⊎◌, ◌≤ℤ◌, ⊤, pos, nat_abs, is_some, true, false, List, [], ◌∷◌, map, All, Option, Some, None}
-use Rattle.model.specs.Log.{TopicPart, Row, Log, IsLog, part_at, from}
-use Rattle.model.specs.Walk.{Place, Lot, turned}
-use Rattle.model.specs.World.{Edge, with_positions}
-use Rattle.model.specs.Entry.Event.{Reset}
-use Rattle.model.specs.Fixed.{Edges, HasPart}
-use Rattle.model.specs.Look.{SetBack}
+use Rattle.model.specs.state.Log.{TopicPart, Row, Log, IsLog, part_at, from}
+use Rattle.model.specs.step.Walk.{Place, Lot, turned}
+use Rattle.model.specs.state.World.{Edge, with_positions}
+use Rattle.model.specs.state.Entry.Event.{Reset}
+use Rattle.model.specs.step.Fixed.{Edges, HasPart}
+use Rattle.model.specs.step.Look.{SetBack}
 pub use Rattle.broker_link.specs.Fetching.{asked}
 use Rattle.broker_link.specs.Fetching.{IsEdge, row_of, rows_in_turn}
 use Rattle.broker_link.specs.declared.fetch.Fetched.{Fetched}
 use Rattle.instance.specs.declared.event.Event.{Event as CodeEvent}
 use Rattle.instance.specs.Ending.{own_of}
-use Rattle.instance.specs.Lots.{put_at}
+use Rattle.instance.specs.Walk.{put_at}
 
 -- the position lies from the start to the end of its partition
 abbrev pub IsInside : Log → Place → Type 0

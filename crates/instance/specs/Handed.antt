@@ -1,19 +1,19 @@
 -- What the walk of a look had at hand: one fetch of the assigned partitions in turn (Apache Kafka protocol guide, Fetch; Confluent REST Proxy API v2, consumer records).
 use Rattle.std.specs.Prelude.{ℕ, ◌≡◌, ◌⊎◌, ◌*◌, min, List, [], ◌∷◌, map, Option, Some}
-use Rattle.model.specs.Log.{Log}
-use Rattle.model.specs.Walk.{Lot, turned, unwalked, walk}
-use Rattle.model.specs.World.{Key, Consumer}
-use Rattle.model.specs.Entry.{Call, Event, Reply, IsLinks}
-use Rattle.model.specs.Entry.Act.{Records}
-use Rattle.model.specs.Entry.Call.{Of}
-use Rattle.model.specs.Entry.Event.{Looked}
-use Rattle.model.specs.Texts.{Response, response_of}
-use Rattle.model.specs.Noted.{events_of, said_of}
-use Rattle.model.specs.Look.{LookEnds, after_events, at_most}
-use Rattle.consumer_state.specs.Acting.{forms}
+use Rattle.model.specs.state.Log.{Log}
+use Rattle.model.specs.step.Walk.{Lot, turned, unwalked, walk}
+use Rattle.model.specs.state.World.{Key, Consumer}
+use Rattle.model.specs.state.Entry.{Call, Event, Reply, IsLinks}
+use Rattle.model.specs.state.Entry.Act.{Records}
+use Rattle.model.specs.state.Entry.Call.{Of}
+use Rattle.model.specs.state.Entry.Event.{Looked}
+use Rattle.model.specs.texts.Texts.{Response, response_of}
+use Rattle.model.specs.history.Noted.{events_of, said_of}
+use Rattle.model.specs.step.Look.{LookEnds, after_events, at_most}
+use Rattle.rest_replies.specs.Forms.{forms}
 use Rattle.instance.specs.Ending.{turn_of}
 use Rattle.instance.specs.Gathering.{AreGiven}
-use Rattle.instance.specs.Lots.{rule_of}
+use Rattle.instance.specs.Walk.{rule_of}
 
 -- something ended the look before its walk, and that is what is answered
 pub record IsCutShort (timeout bound : Option ℕ) (said : Option Response) : Type 0 where

@@ -1,8 +1,8 @@
 -- What one or more calls of a link leave that store and commit nothing, and ask it no produce.
 use Rattle.std.specs.Prelude.{◌≡◌}
-use Rattle.model.specs.Log.{Keeps, IsLog}
-use Rattle.model.specs.Fixed.{SameCommits}
-use Rattle.model.specs.Produced.{NoneAdded}
+use Rattle.model.specs.state.Log.{Keeps, IsLog}
+use Rattle.model.specs.step.Fixed.{SameCommits}
+use Rattle.model.specs.step.Produced.{NoneAdded}
 use Rattle.broker_link.specs.Replies.{CountsKept}
 use Rattle.broker_link.specs.Stands.{Goes, Stand}
 

@@ -1,11 +1,11 @@
 -- What the calls of a live consumer that ask the link nothing are answered (Confluent REST Proxy API v2, consumers).
 use Rattle.std.specs.Prelude.{⊤, List}
-use Rattle.model.specs.Log.{TopicPart}
-use Rattle.model.specs.Entry.Reply.{Done, Listed, Refused}
+use Rattle.model.specs.state.Log.{TopicPart}
+use Rattle.model.specs.state.Entry.Reply.{Done, Listed, Refused}
 use Rattle.rest_calls.specs.declared.call.Call.{Call}
 use Rattle.rest_calls.specs.declared.call.Call.TheVariants.{Create, Delete, Assignments}
 use Rattle.rest_codes.specs.declared.response.Reply.{Reply}
-use Rattle.consumer_state.specs.Failing.{SaysOrWant}
+use Rattle.rest_replies.specs.Failure.{SaysOrWant}
 
 -- a Create finds the consumer live, a Delete is done, and the assignment is listed
 abbrev pub TellsSo : List TopicPart → Call → Reply → Type 0

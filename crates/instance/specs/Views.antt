@@ -1,12 +1,12 @@
 -- What an instance, its events and its replies stand for in the model (Confluent REST Proxy API v2, consumers).
 use Rattle.std.specs.Prelude.{◌⊎◌, List, map, option_map, Option}
 use Rattle.std.proofs.Common.{inr}
-use Rattle.model.specs.World.{Key, Consumer}
-use Rattle.model.specs.Entry.{Event}
-use Rattle.model.specs.Entry.Event.{Reset, Looked}
-use Rattle.model.specs.Texts.{Response}
+use Rattle.model.specs.state.World.{Key, Consumer}
+use Rattle.model.specs.state.Entry.{Event}
+use Rattle.model.specs.state.Entry.Event.{Reset, Looked}
+use Rattle.model.specs.texts.Texts.{Response}
 use Rattle.rest_calls.specs.Responses.{response_in}
-use Rattle.consumer_state.specs.Views.{place_of}
+use Rattle.broker_link.specs.Places.{place_of}
 use Rattle.instance.specs.declared.event.Event.{Event as CodeEvent}
 use Rattle.instance.specs.declared.event.Event.TheVariants.{Reset as CodeReset, Looked as CodeLooked}
 use Rattle.instance.specs.declared.event.Outcome.{Outcome}

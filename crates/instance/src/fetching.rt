@@ -1,16 +1,15 @@
 ghost use Rattle.std.specs.Prelude.{◌≡◌, ◌<◌, ◌≤◌, ◌^◌, ◌-◌, ◌*◌, ◌↔◌, min, false, All, IfOk, IfErr, IsTrue, List, length, map};
-ghost use Rattle.model.specs.Walk.{turned};
-ghost use Rattle.model.specs.World.{IsInOrder};
+ghost use Rattle.model.specs.step.Walk.{turned};
+ghost use Rattle.model.specs.state.World.{IsInOrder};
 ghost use Rattle.broker_link.specs.Causes.{ComesOf};
 ghost use Rattle.broker_link.specs.Fetching.{rows_in};
 ghost use Rattle.broker_link.specs.declared.link.LinkNo.TheVariants.{Want};
 ghost use Rattle.instance.specs.Gathering.{AreGiven, GotFrom, HaveAll, asked};
-ghost use Rattle.instance.specs.Lots.{HasOffsets};
+ghost use Rattle.instance.specs.Walk.{HasOffsets};
 ghost use Rattle.instance.specs.Passing.{Passes};
-ghost use Rattle.consumer_state.specs.Views.{place_of};
+ghost use Rattle.broker_link.specs.Places.{place_of};
 
-use broker_link::{FetchFrom, Fetched, Link, LinkNo};
-use consumer_state::Place;
+use broker_link::{FetchFrom, Fetched, Link, LinkNo, Place};
 use gate_io::{Items, Text};
 use std::alloc::{AllocError, Global};
 

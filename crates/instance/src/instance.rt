@@ -1,26 +1,27 @@
 ghost use Rattle.std.specs.Prelude.{◌≡◌, ◌≢◌, ◌<◌, ◌*◌, ◌^◌, ℕ, List, [], IfOk, Option, None, Some, map};
-ghost use Rattle.model.specs.World.{IsConsumer, fresh, is_key};
-ghost use Rattle.model.specs.World.Mode.{ByTopics};
-ghost use Rattle.model.specs.Entry.{Act};
-ghost use Rattle.model.specs.Entry.Act.{Records};
-ghost use Rattle.model.specs.Entry.Call.{Of};
-ghost use Rattle.model.specs.Noted.{EndsInLook};
+ghost use Rattle.model.specs.state.World.{IsConsumer, fresh, is_key};
+ghost use Rattle.model.specs.state.World.Mode.{ByTopics};
+ghost use Rattle.model.specs.state.Entry.{Act};
+ghost use Rattle.model.specs.state.Entry.Act.{Records};
+ghost use Rattle.model.specs.state.Entry.Call.{Of};
+ghost use Rattle.model.specs.history.Noted.{EndsInLook};
 ghost use Rattle.rest_calls.specs.Views.{asked_of, key_in, settings_of};
-ghost use Rattle.consumer_state.specs.Acting.{ActsSo};
+ghost use Rattle.consumer_state.specs.Assign.{ActsSo};
 ghost use Rattle.instance.specs.Handed.{LooksAtGiven};
 ghost use Rattle.rest_calls.specs.Responses.{response_in};
 ghost use Rattle.instance.specs.Passing.{Consults};
 ghost use Rattle.instance.specs.Telling.{TellsSo};
-ghost use Rattle.consumer_state.specs.Views.{at_in};
+ghost use Rattle.broker_link.specs.Places.{at_in};
 ghost use Rattle.instance.specs.Views.{events_in, said_in};
 
 use crate::Outcome;
 use crate::look::look;
 use broker_link::Link;
-use consumer_state::{Consumer, assign_parts, listed, refused};
-use gate_io::{Items, Text, Want};
+use consumer_state::{Consumer, assign_parts};
+use gate_io::{Text, Want};
 use rest_calls::{Call, Settings};
 use rest_codes::Reply;
+use rest_replies::{listed, refused};
 use std::alloc::{AllocError, Global};
 use std::marker::Model;
 
@@ -41,18 +42,6 @@ impl Model for Instance {
     ghost view = { λ i. record { key = record { group = i.group; instance = i.name }; consumer = consumer_of i.consumer } };
 
     ghost invariant = { λ i. IsSound i.consumer };
-}
-
-/// The outcome of a call that has no event.
-fn answered(alloc: Global, reply: Reply) -> Outcome
-    ensures events { events_in result ≡ [] }
-    ensures said { said_in result ≡ Some (response_in reply) }
-    ensures some { result.reply ≡ Some reply }
-{
-    Outcome {
-        events: Items::new(alloc),
-        reply: Some(reply),
-    }
 }
 
 /// The reply to a call that asks the link nothing.
@@ -150,7 +139,7 @@ impl Instance {
                 *timeout,
                 *max_bytes,
             ),
-            Call::Assign { parts, .. } => answered(
+            Call::Assign { parts, .. } => Outcome::of_reply(
                 alloc,
                 assign_parts(
                     &mut self.consumer,
@@ -163,7 +152,7 @@ impl Instance {
             ),
             other => {
                 self.consumer.last_use = now;
-                answered(alloc, told(alloc, &self.consumer, other))
+                Outcome::of_reply(alloc, told(alloc, &self.consumer, other))
             }
         }
     }

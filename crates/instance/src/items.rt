@@ -1,16 +1,15 @@
 ghost use Rattle.std.specs.Prelude.{◌≡◌, ◌++◌, ◌+◌, ◌-◌, ◌*◌, ◌/◌, ◌<◌, ◌^◌, min, List, [], cond, codes, length, map, nat_abs, string_bytes, All, IfOk, OnOk};
-ghost use Rattle.model.specs.Bodies.{array, item_text};
-ghost use Rattle.model.specs.World.Format.{Binary};
-ghost use Rattle.consumer_state.specs.Acting.{forms};
-ghost use Rattle.instance.specs.Items.{bytes_text, front_text, place_text, quoted_topics};
-ghost use Rattle.instance.specs.Lots.{HasRow, IsPick, item_in, lots_of, seen, stored_in};
+ghost use Rattle.model.specs.texts.Bodies.{array, item_text};
+ghost use Rattle.model.specs.state.World.Format.{Binary};
+ghost use Rattle.rest_replies.specs.Forms.{forms};
+ghost use Rattle.instance.specs.Items.{quoted_topics};
+ghost use Rattle.instance.specs.Walk.{HasRow, IsPick, item_in, lots_of, seen, stored_in};
 
 use crate::walk::{Lots, Pick, Walk};
-use base64::engine::general_purpose::STANDARD;
-use broker_link::{Fetched, Stored};
-use consumer_state::{Place, quoted_text};
-use gate_io::{Items, Text};
-use itoa::Buffer;
+use broker_link::{Fetched, Place, Stored};
+use gate_io::Text;
+use rest_codes::quoted_text;
+use rest_replies::put_row;
 use std::alloc::{AllocError, Global};
 
 /// Room for what is written of a row besides its topic, its key and its value.
@@ -33,58 +32,6 @@ fn quoted_topics(alloc: Global, places: &[Place]) -> Result<Vec<Text>, AllocErro
         topics.push(Text::from_string(topic))?;
     }
     Ok(topics)
-}
-
-#[tactic(auto, unfolding(crate::specs::Items::bytes_text))]
-fn put_bytes(text: &mut String, bytes: &Option<Items<u8>>) -> Result<(), AllocError>
-    ensures { OnOk result (string_bytes text.new ≡ string_bytes text.old ++ bytes_text bytes.now) }
-{
-    match bytes {
-        None => text.push_str("null"),
-        Some(bytes) => {
-            text.push_str("\"")?;
-            STANDARD.encode_string(bytes.as_slice(), text)?;
-            text.push_str("\"")
-        }
-    }
-}
-
-#[tactic(auto, unfolding(crate::specs::Items::front_text))]
-fn put_front(text: &mut String, topic: &str, stored: &Stored) -> Result<(), AllocError>
-    ensures { OnOk result (string_bytes text.new ≡ string_bytes text.old ++ front_text topic.now stored.now.key stored.now.value) }
-{
-    text.push_str("{\"topic\":")?;
-    text.push_str(topic)?;
-    text.push_str(",\"key\":")?;
-    put_bytes(text, &stored.key)?;
-    text.push_str(",\"value\":")?;
-    put_bytes(text, &stored.value)
-}
-
-#[tactic(auto, unfolding(crate::specs::Items::place_text))]
-fn put_place(text: &mut String, partition: u32, offset: u64) -> Result<(), AllocError>
-    ensures { OnOk result (string_bytes text.new ≡ string_bytes text.old ++ place_text partition offset) }
-{
-    let mut digits = Buffer::new();
-    text.push_str(",\"partition\":")?;
-    text.push_str(digits.format(partition))?;
-    text.push_str(",\"offset\":")?;
-    text.push_str(digits.format(offset))?;
-    text.push_str("}")?;
-    Ok(())
-}
-
-fn put_row(
-    text: &mut String,
-    topic: &str,
-    partition: i32,
-    stored: &Stored,
-) -> Result<(), AllocError>
-    ensures { OnOk result (string_bytes text.new ≡ string_bytes text.old
-        ++ (front_text topic.now stored.now.key stored.now.value ++ place_text (nat_abs partition) (nat_abs stored.now.offset))) }
-{
-    put_front(text, topic, stored)?;
-    put_place(text, partition.unsigned_abs(), stored.offset.unsigned_abs())
 }
 
 fn put_item(text: &mut String, topics: &[Text], lots: &Lots, pick: Pick) -> Result<(), AllocError>

@@ -1,13 +1,14 @@
 ghost use Rattle.std.specs.Prelude.{◌≡◌, ◌+◌, ◌<◌, ◌≤ℤ◌, pos, nat_abs, All, length, map};
-ghost use Rattle.model.specs.Events.{moved};
-ghost use Rattle.model.specs.World.{IsApart, IsLow, moved_places};
-ghost use Rattle.instance.specs.Lots.{HasOffsets, IsOffset, IsPick, item_in, lots_of, put_at};
-ghost use Rattle.consumer_state.specs.Views.{IsSound, consumer_of, place_of};
+ghost use Rattle.model.specs.step.Events.{moved};
+ghost use Rattle.model.specs.state.World.{IsApart, IsLow, moved_places};
+ghost use Rattle.instance.specs.Walk.{HasOffsets, IsOffset, IsPick, item_in, lots_of, put_at};
+ghost use Rattle.broker_link.specs.Places.{place_of};
+ghost use Rattle.consumer_state.specs.Views.{IsSound, consumer_of};
 
 use crate::items::stored_at;
 use crate::walk::Pick;
-use broker_link::{Fetched, Stored};
-use consumer_state::{Consumer, Place};
+use broker_link::{Fetched, Place, Stored};
+use consumer_state::Consumer;
 
 /// The offset behind a record's.
 fn behind(stored: &Stored) -> i64

@@ -1,20 +1,19 @@
 ghost use Rattle.std.specs.Prelude.{◌≡◌, ◌++◌, ◌<◌, ◌≤ℤ◌, [], ◌∷◌, pos, is_some, All, IfOk, IfErr, OnOk, OnErr, length, map};
-ghost use Rattle.model.specs.Log.{IsLog};
-ghost use Rattle.model.specs.World.{IsLow};
-ghost use Rattle.model.specs.Entry.Event.{Reset};
-ghost use Rattle.model.specs.Fixed.{HasPart};
+ghost use Rattle.model.specs.state.Log.{IsLog};
+ghost use Rattle.model.specs.state.World.{IsLow};
+ghost use Rattle.model.specs.state.Entry.Event.{Reset};
+ghost use Rattle.model.specs.step.Fixed.{HasPart};
 ghost use Rattle.broker_link.specs.Causes.{ComesOf};
 ghost use Rattle.broker_link.specs.Fetching.{IsEdge, edge_view};
 ghost use Rattle.broker_link.specs.declared.link.LinkNo.TheVariants.{Want};
 ghost use Rattle.instance.specs.Ending.{own_of};
 ghost use Rattle.instance.specs.Gathering.{AreSet, AreTold, EdgesTold, HaveAll, IsEdgeIf, IsLowIf, news_of, put_all, put_maybe};
 ghost use Rattle.instance.specs.Passing.{Passes};
-ghost use Rattle.consumer_state.specs.Views.{at_in, place_of};
+ghost use Rattle.broker_link.specs.Places.{at_in, place_of};
 
 use crate::Event;
 use crate::moves::put_position;
-use broker_link::{Edge, Fetched, Link, LinkNo};
-use consumer_state::Place;
+use broker_link::{Edge, Fetched, Link, LinkNo, Place};
 use gate_io::{Items, Text};
 use std::alloc::{AllocError, Global};
 

@@ -1,11 +1,9 @@
 ghost use Rattle.std.specs.Prelude.{◌≡◌, ◌<◌, ◌≤◌, ◌+◌, ◌-◌, ◌^◌, ◌&&◌, ◌||◌, take, drop, IfOk, nat_lt, nat_le, OnOk, All, List, [], length};
 ghost use Rattle.broker_link.specs.Fetching.{row_of};
-ghost use Rattle.model.specs.Walk.{Lot, bytes_of, length_of, size_of, turned, unwalked, walk, walk_part};
-ghost use Rattle.instance.specs.Lots.{IsPick, is_enough, lot_at, lots_of, rule_of, seen};
+ghost use Rattle.model.specs.step.Walk.{Lot, bytes_of, size_of, turned, unwalked, walk, walk_part};
+ghost use Rattle.instance.specs.Walk.{IsPick, is_enough, lot_at, lots_of, rule_of, seen};
 
-use broker_link::{Fetched, Stored};
-use consumer_state::Place;
-use gate_io::Items;
+use broker_link::{Fetched, Place, Stored, length_of};
 use std::alloc::{AllocError, Global};
 
 /// As many rows as a reply has at most.
@@ -35,21 +33,11 @@ pub(crate) struct Walk {
     pub stopped: bool,
 }
 
-fn len_of(bytes: &Option<Items<u8>>) -> u64
-    ensures value { result ≡ length_of bytes.now }
-    ensures bound { result < 2 ^ 63 }
-{
-    match bytes {
-        Some(bytes) => bytes.as_slice().len() as u64,
-        None => 0,
-    }
-}
-
 /// The bytes of the key and the value.
 fn size_of(stored: &Stored) -> u64
     ensures { result ≡ size_of (row_of stored.now) }
 {
-    len_of(&stored.key) + len_of(&stored.value)
+    length_of(&stored.key) + length_of(&stored.value)
 }
 
 impl Walk {

@@ -4,17 +4,17 @@ use Rattle.std.specs.Prelude.{ℤ, ◌⊎◌}
 use Rattle.std.specs.List.{All, count_by, sum_by}
 use Rattle.std.proofs.lemmas.List.Sums.{sum_by-cons}
 use Rattle.std.proofs.lemmas.List.Elements.{All-head, All-tail}
-use Rattle.model.specs.Log.{Log, rows_in_all}
-use Rattle.model.specs.Walk.{Item}
-use Rattle.model.specs.World.{Key, Consumer, World}
-use Rattle.model.specs.Entry.{Batch, Call, Event, Reply, Turn, Placed, Entry, is_zero, IsLinks}
-use Rattle.model.specs.Entry.Call.{Produce, Ask, Of}
-use Rattle.model.specs.Entry.Reply.{Broker, LinkFault, Want}
-use Rattle.model.specs.Produced.{answer_of, numbered, chosen, NoneAdded}
-use Rattle.model.specs.Step.{parts_of, ProduceEnds, Does, Whole, Starved, Step, left}
-use Rattle.model.specs.Legal.{Tally, Run}
+use Rattle.model.specs.state.Log.{Log, rows_in_all}
+use Rattle.model.specs.step.Walk.{Item}
+use Rattle.model.specs.state.World.{Key, Consumer, World}
+use Rattle.model.specs.state.Entry.{Batch, Call, Event, Reply, Turn, Placed, Entry, is_zero, IsLinks}
+use Rattle.model.specs.state.Entry.Call.{Produce, Ask, Of}
+use Rattle.model.specs.state.Entry.Reply.{Broker, LinkFault, Want}
+use Rattle.model.specs.step.Produced.{answer_of, numbered, chosen, NoneAdded}
+use Rattle.model.specs.step.Step.{parts_of, ProduceEnds, Does, Whole, Starved, Step, left}
+use Rattle.model.specs.history.Legal.{Tally, Run}
 use Rattle.model.proofs.Stretches.{run_keeps}
-use Rattle.model.specs.Stored.{is_stored, stored_of, stored_by, is_unknown}
+use Rattle.model.specs.history.Stored.{is_stored, stored_of, stored_by, is_unknown}
 
 one_stored : (code : ℕ → ℤ) (item : Item) → ◌≡◌ {A = ℕ} (cond (is_stored (answer_of code item)) 1 0) (cond (is_zero (code item.at.partition)) 1 0)
 one_stored code item = go (is_zero (code item.at.partition)) refl

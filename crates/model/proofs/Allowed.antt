@@ -4,17 +4,17 @@ use Rattle.std.specs.Prelude.{pos}
 use Rattle.std.specs.List.{All}
 use Rattle.std.proofs.lemmas.List.Elements.{All-head}
 use mathlib.Core.List.{IsPrefix}
-use Rattle.model.specs.Log.{Keeps, from}
-use Rattle.model.specs.Walk.{Lot}
-use Rattle.model.specs.World.{names_rise, touched}
-use Rattle.model.specs.Answers.{two_topics, at_start, saver, saved_log}
-use Rattle.model.specs.World.Format.{Binary}
-use Rattle.model.specs.Entry.Event.{Committed, Looked}
-use Rattle.model.specs.Entry.Question.{Topics}
-use Rattle.model.specs.Entry.Reply.{Names, Shown}
-use Rattle.model.specs.Look.{AtHand, Looks, moved}
-use Rattle.model.specs.Step.{Tells}
-use Rattle.model.specs.Example.{turn, row, one_row, reader, shown_item}
+use Rattle.model.specs.state.Log.{Keeps, from}
+use Rattle.model.specs.step.Walk.{Lot}
+use Rattle.model.specs.state.World.{names_rise, touched}
+use Rattle.model.specs.examples.Answers.{two_topics, at_start, saver, saved_log}
+use Rattle.model.specs.state.World.Format.{Binary}
+use Rattle.model.specs.state.Entry.Event.{Committed, Looked}
+use Rattle.model.specs.state.Entry.Question.{Topics}
+use Rattle.model.specs.state.Entry.Reply.{Names, Shown}
+use Rattle.model.specs.step.Look.{AtHand, Looks, moved}
+use Rattle.model.specs.step.Step.{Tells}
+use Rattle.model.specs.examples.Example.{turn, row, one_row, reader, shown_item}
 use Rattle.model.proofs.Stretches.{keeps_itself}
 use Rattle.model.proofs.Example.{is_log}
 

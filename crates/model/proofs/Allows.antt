@@ -3,18 +3,18 @@ use Rattle.std.proofs.Common.{◌≡◌, ℕ, zero, suc, ◌<◌, ◌≤◌, Boo
 use Rattle.std.specs.Prelude.{pos, bytes_eq, IsTrue, codes}
 use Rattle.std.specs.List.{All}
 use mathlib.Core.List.{IsPrefix}
-use Rattle.model.specs.Log.{TopicPart, Row, IsLog, Log, Keeps, part_at, from, is_at}
-use Rattle.model.specs.Walk.{Place, Lot, unwalked}
-use Rattle.model.specs.World.{Consumer, IsInOrder}
-use Rattle.model.specs.World.Edge.{Start}
-use Rattle.model.specs.World.Format.{Binary}
-use Rattle.model.specs.Entry.Event.{Committed, Rebalanced, Looked}
-use Rattle.model.specs.Entry.Reply.{Done, Shown, Broker, Want}
-use Rattle.model.specs.Fixed.{Fixes}
-use Rattle.model.specs.Look.{AtHand, HasNone, is_listed}
-use Rattle.model.specs.Readings.{orders, other_orders, reader}
-use Rattle.model.specs.Subscribing.{both, both_at, none_committed, once_committed, member}
-use Rattle.model.specs.Rights.{first_at_one, PartOfACommit, RebalanceAfterACommit, WantBehindACommit, DeleteCommitsInPart, EmptyCommit}
+use Rattle.model.specs.state.Log.{TopicPart, Row, IsLog, Log, Keeps, part_at, from, is_at}
+use Rattle.model.specs.step.Walk.{Place, Lot, unwalked}
+use Rattle.model.specs.state.World.{Consumer, IsInOrder}
+use Rattle.model.specs.state.World.Edge.{Start}
+use Rattle.model.specs.state.World.Format.{Binary}
+use Rattle.model.specs.state.Entry.Event.{Committed, Rebalanced, Looked}
+use Rattle.model.specs.state.Entry.Reply.{Done, Shown, Broker, Want}
+use Rattle.model.specs.step.Fixed.{Fixes}
+use Rattle.model.specs.step.Look.{AtHand, HasNone, is_listed}
+use Rattle.model.specs.examples.Readings.{orders, other_orders, reader}
+use Rattle.model.specs.examples.Subscribing.{both, both_at, none_committed, once_committed, member}
+use Rattle.model.specs.examples.Rights.{first_at_one, PartOfACommit, RebalanceAfterACommit, WantBehindACommit, DeleteCommitsInPart, EmptyCommit}
 use Rattle.model.proofs.Stretches.{keeps_itself}
 use Rattle.model.proofs.Subscribing.{both_is_log, both_keeps}
 

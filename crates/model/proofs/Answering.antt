@@ -2,12 +2,12 @@
 use Rattle.std.proofs.Common.{ℕ, ◌≡◌, ◌+◌, ◌≤◌, ◌==◌, zero, suc, Bool, true, false, List, [], ◌∷◌, ◌++◌, map, length, is_some, refl, ap, sym, ◌∙◌, append_assoc, arith, length-append, Option, Some, None}
 use Rattle.std.proofs.lemmas.List.{append-nil, map-append}
 use Rattle.std.proofs.lemmas.List.Elements.{filter-append}
-use Rattle.model.specs.Entry.{Call}
-use Rattle.model.specs.Asked.{numbers}
-use Rattle.model.specs.Texts.{Response}
-use Rattle.model.specs.Noted.{Noted}
-use Rattle.model.specs.Handled.{Handled, Answers, AnswersEach, AnswersOrWears, AreAnsweredOnce, HasSeen, IsHousekeeping, Looking, answered_in, answers_in, calls_in, noted_by}
-use Rattle.model.specs.Handled.Handled.{Entered, Stayed}
+use Rattle.model.specs.state.Entry.{Call}
+use Rattle.model.specs.step.Asked.{numbers}
+use Rattle.model.specs.texts.Texts.{Response}
+use Rattle.model.specs.history.Noted.{Noted}
+use Rattle.model.specs.history.Handled.{Handled, Answers, AnswersEach, AnswersOrWears, AreAnsweredOnce, HasSeen, IsHousekeeping, Looking, answered_in, answers_in, calls_in, noted_by}
+use Rattle.model.specs.history.Handled.Handled.{Entered, Stayed}
 
 pub answers_more : (handled : List Handled) (entries : List Noted) (call : Call) (said : Response) (own : List Noted)
     → AnswersEach handled entries → Answers call said own → AnswersEach (handled ++ Entered call said ∷ []) (entries ++ own)

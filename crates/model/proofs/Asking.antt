@@ -1,15 +1,15 @@
 -- The example history of questions is legal, step by step.
 use Rattle.std.proofs.Common.{[], ◌∷◌, refl, inl, inr, arith, Some, None}
 use Rattle.std.specs.Prelude.{codes}
-use Rattle.model.specs.Log.{Log, IsLog}
-use Rattle.model.specs.World.{names_rise, nobody}
-use Rattle.model.specs.Entry.{Question, Reply}
-use Rattle.model.specs.Entry.Question.{Brokers, Topics, OneTopic, Parts, OnePart, EndOffsets}
-use Rattle.model.specs.Step.{HasTopic, IsAnswered, Step}
-use Rattle.model.specs.Fixed.{HasPart}
-use Rattle.model.specs.Legal.{Counts, Legal, no_tally}
-use Rattle.model.specs.Readings.{orders, three, log_of}
-use Rattle.model.specs.Asking.{on_node_one, both_parts, third_orders, asked, questions}
+use Rattle.model.specs.state.Log.{Log, IsLog}
+use Rattle.model.specs.state.World.{names_rise, nobody}
+use Rattle.model.specs.state.Entry.{Question, Reply}
+use Rattle.model.specs.state.Entry.Question.{Brokers, Topics, OneTopic, Parts, OnePart, EndOffsets}
+use Rattle.model.specs.step.Step.{HasTopic, IsAnswered, Step}
+use Rattle.model.specs.step.Fixed.{HasPart}
+use Rattle.model.specs.history.Legal.{Counts, Legal, no_tally}
+use Rattle.model.specs.examples.Readings.{orders, three, log_of}
+use Rattle.model.specs.examples.Asking.{on_node_one, both_parts, third_orders, asked, questions}
 use Rattle.model.proofs.Readings.{is_log, three_are_full}
 use Rattle.model.proofs.Stretches.{keeps_itself}
 

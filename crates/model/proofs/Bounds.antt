@@ -5,17 +5,17 @@ use Rattle.std.specs.List.{All}
 use Rattle.std.proofs.lemmas.Bool.Decides.{nat_tests}
 use Rattle.std.proofs.lemmas.List.Elements.{All-nil, All-cons, All-append, All-weaker}
 use Rattle.std.proofs.lemmas.List.Sums.{sum_by_push}
-use Rattle.model.specs.Log.{TopicPart, Row, Log}
-use Rattle.model.specs.Walk.{Item, Lot, Rule, Walked, unwalked, walk, walk_part, turned, is_full, with_row, size_of, bytes_of}
-use Rattle.model.specs.World.{Key, Format, Consumer, World}
-use Rattle.model.specs.Forms.{Forms, reason_of}
-use Rattle.model.specs.Entry.{Event, Turn, Entry, IsLinks}
-use Rattle.model.specs.Entry.Act.{Records}
-use Rattle.model.specs.Entry.Call.{Of}
-use Rattle.model.specs.Entry.Reply.{Refused, Shown, Want}
-use Rattle.model.specs.Look.{at_most, reads_in, after_events, Looks, LookEnds, IsLook, IsWalked, IsCut_off, Sends}
-use Rattle.model.specs.Step.{Acts, Does, Whole, Starved, Step, left}
-use Rattle.model.specs.Bounds.{IsBounded}
+use Rattle.model.specs.state.Log.{TopicPart, Row, Log}
+use Rattle.model.specs.step.Walk.{Item, Lot, Rule, Walked, unwalked, walk, walk_part, turned, is_full, with_row, size_of, bytes_of}
+use Rattle.model.specs.state.World.{Key, Format, Consumer, World}
+use Rattle.model.specs.state.Forms.{Forms, reason_of}
+use Rattle.model.specs.state.Entry.{Event, Turn, Entry, IsLinks}
+use Rattle.model.specs.state.Entry.Act.{Records}
+use Rattle.model.specs.state.Entry.Call.{Of}
+use Rattle.model.specs.state.Entry.Reply.{Refused, Shown, Want}
+use Rattle.model.specs.step.Look.{at_most, reads_in, after_events, Looks, LookEnds, IsLook, IsWalked, IsCut_off, Sends}
+use Rattle.model.specs.step.Step.{Acts, Does, Whole, Starved, Step, left}
+use Rattle.model.specs.step.Bounds.{IsBounded}
 use Rattle.model.proofs.Walks.{walk-stopped, walk-on}
 
 -- what a walk has taken is bounded, and reads

@@ -3,16 +3,16 @@ use Rattle.std.proofs.Common.{◌≡◌, ℕ, zero, suc, ◌<◌, ◌≤◌, ◌
 use Rattle.std.specs.Prelude.{◌⊎◌, ◌≢◌, Contains, IsSome, is_none}
 use Rattle.std.specs.List.{All}
 use Rattle.std.proofs.lemmas.List.Elements.{All-nil, All-cons}
-use Rattle.model.specs.Log.{TopicPart, Row, Log}
-use Rattle.model.specs.Walk.{Place, Lot, Item, Rule, Walked, unwalked, walk, walk_part, with_row, or_first, turned}
-use Rattle.model.specs.World.{Key, Edge, Consumer, touched, position_in}
-use Rattle.model.specs.World.Mode.{ByTopics}
-use Rattle.model.specs.Entry.{Event, Reply, Turn, IsLinks}
-use Rattle.model.specs.Entry.Act.{Assign, Fixed}
-use Rattle.model.specs.Entry.Reply.{Done, Broker, Refused, Want, Shown}
-use Rattle.model.specs.Fixed.{Fixes, HasPart, fixed_at}
-use Rattle.model.specs.Acts.{Live}
-use Rattle.model.specs.Step.{lacking, IsCut, as_assigned}
+use Rattle.model.specs.state.Log.{TopicPart, Row, Log}
+use Rattle.model.specs.step.Walk.{Place, Lot, Item, Rule, Walked, unwalked, walk, walk_part, with_row, or_first, turned}
+use Rattle.model.specs.state.World.{Key, Edge, Consumer, touched, position_in}
+use Rattle.model.specs.state.World.Mode.{ByTopics}
+use Rattle.model.specs.state.Entry.{Event, Reply, Turn, IsLinks}
+use Rattle.model.specs.state.Entry.Act.{Assign, Fixed}
+use Rattle.model.specs.state.Entry.Reply.{Done, Broker, Refused, Want, Shown}
+use Rattle.model.specs.step.Fixed.{Fixes, HasPart, fixed_at}
+use Rattle.model.specs.step.Acts.{Live}
+use Rattle.model.specs.step.Step.{lacking, IsCut, as_assigned}
 use Rattle.model.proofs.Singles.{no_cut, assigned_places}
 
 no_refusal : (code : ℕ) (c1 c2 : Option Consumer) → IsCut (Some (Refused code)) c1 c2 → ⊥

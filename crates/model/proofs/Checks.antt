@@ -3,15 +3,15 @@ use Rattle.std.proofs.Common.{refl}
 use Rattle.std.specs.Fmt.{digits}
 use Rattle.json.specs.Print.{escape_byte}
 use Rattle.std.specs.Prelude.{codes, pos, negsuc, ◌≡◌, [], ◌∷◌, Some, None}
-use Rattle.model.specs.World.Edge.{Start}
-use Rattle.model.specs.Entry.Act.{Create, Delete, Subscription, Subscribe, Assignments, Seek, Fixed, Records}
-use Rattle.model.specs.Entry.Question.{Brokers, Topics, OneTopic, Parts, OnePart, EndOffsets}
-use Rattle.model.specs.Entry.Call.{Produce, Ask, Of}
-use Rattle.model.specs.Entry.Placed.{Stored, Failed}
-use Rattle.model.specs.Entry.Reply.{Done, Made, Names, Nodes, Offsets, Told, Edged, Listed, Answers, Unread, Refused, Broker, LinkFault}
-use Rattle.model.specs.Readings.{reader, orders, other_orders, place_at, kafka_at, settings_of}
-use Rattle.model.specs.ReadingReplies.{one_part, as_written}
-use Rattle.model.specs.Texts.Response.{Empty, Body, Error}
+use Rattle.model.specs.state.World.Edge.{Start}
+use Rattle.model.specs.state.Entry.Act.{Create, Delete, Subscription, Subscribe, Assignments, Seek, Fixed, Records}
+use Rattle.model.specs.state.Entry.Question.{Brokers, Topics, OneTopic, Parts, OnePart, EndOffsets}
+use Rattle.model.specs.state.Entry.Call.{Produce, Ask, Of}
+use Rattle.model.specs.state.Entry.Placed.{Stored, Failed}
+use Rattle.model.specs.state.Entry.Reply.{Done, Made, Names, Nodes, Offsets, Told, Edged, Listed, Answers, Unread, Refused, Broker, LinkFault}
+use Rattle.model.specs.examples.Readings.{reader, orders, other_orders, place_at, kafka_at, settings_of}
+use Rattle.model.specs.examples.ReadingReplies.{one_part, as_written}
+use Rattle.model.specs.texts.Texts.Response.{Empty, Body, Error}
 
 pub stored_text : as_written (Produce (codes "orders") (record { key_id = None; value_id = None; records = [] })) (Answers (Stored 0 0 ∷ [])) ≡ Body None (codes "{\"offsets\":[{\"partition\":0,\"offset\":0,\"error_code\":null,\"error\":null}],\"key_schema_id\":null,\"value_schema_id\":null}")
 unfolding digits escape_byte

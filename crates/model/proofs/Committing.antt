@@ -3,16 +3,16 @@ use Rattle.std.proofs.Common.{◌≡◌, ℕ, suc, ◌≤◌, ◌&&◌, Bool, tr
 use Rattle.std.specs.Prelude.{ℤ, ◌⊎◌, bytes_eq}
 use Rattle.std.specs.List.{filter}
 use Rattle.std.proofs.lemmas.Slice.Eq.{bytes_eq-Decides}
-use Rattle.model.specs.Log.{TopicPart, is_at, Log}
-use Rattle.model.specs.Walk.{Place}
-use Rattle.model.specs.World.{Key, Format, Consumer, World, IsApart, IsInOrder, position_in}
-use Rattle.model.specs.Entry.{Call, Act, Event, Reply, Turn, Entry, is_zero}
-use Rattle.model.specs.Entry.Call.{Produce, Ask, Of}
-use Rattle.model.specs.Entry.Act.{Create, Delete, Subscribe, Subscription, Unsubscribe, Assign, Assignments, Seek, SeekEdge, Commit, Fixed, Records}
-use Rattle.model.specs.Fixed.{with_commits, Commits, SameCommits, CommitsSome}
-use Rattle.model.specs.Look.{is_due, Saves, Looks}
-use Rattle.model.specs.Step.{Live, Gone, Acts, Does, Whole, Starved, Step, left}
-use Rattle.model.specs.Committing.{is_in_group}
+use Rattle.model.specs.state.Log.{TopicPart, is_at, Log}
+use Rattle.model.specs.step.Walk.{Place}
+use Rattle.model.specs.state.World.{Key, Format, Consumer, World, IsApart, IsInOrder, position_in}
+use Rattle.model.specs.state.Entry.{Call, Act, Event, Reply, Turn, Entry, is_zero}
+use Rattle.model.specs.state.Entry.Call.{Produce, Ask, Of}
+use Rattle.model.specs.state.Entry.Act.{Create, Delete, Subscribe, Subscription, Unsubscribe, Assign, Assignments, Seek, SeekEdge, Commit, Fixed, Records}
+use Rattle.model.specs.step.Fixed.{with_commits, Commits, SameCommits, CommitsSome}
+use Rattle.model.specs.step.Look.{is_due, Saves, Looks}
+use Rattle.model.specs.step.Step.{Live, Gone, Acts, Does, Whole, Starved, Step, left}
+use Rattle.model.specs.step.Committing.{is_in_group}
 use Rattle.model.proofs.Walks.{same_from_is_at, is_at_itself}
 use Rattle.model.proofs.Moves.{apart_from_order}
 

@@ -1,12 +1,12 @@
 -- A connection's entries go on shard by shard, and connections follow one another.
 use Rattle.std.proofs.Common.{◌≡◌, ℕ, ◌==◌, ◌∙◌, Bool, true, false, cond, List, [], ◌∷◌, ◌++◌, refl, ap, sym, subst, append_assoc, Option, Some, None}
 use Rattle.std.proofs.lemmas.List.{append-nil}
-use Rattle.model.specs.Entry.{Call}
-use Rattle.model.specs.Texts.{Response}
-use Rattle.model.specs.Noted.{Noted}
-use Rattle.model.specs.Handled.{Handled, Answers, AnswersEach, AnswersOrWears, IsHousekeeping, Looking}
-use Rattle.model.specs.Handled.Handled.{Entered, Stayed}
-use Rattle.model.specs.Connections.{Entries, only_in, at_shard, worn_at, IsConnection, AreParts}
+use Rattle.model.specs.state.Entry.{Call}
+use Rattle.model.specs.texts.Texts.{Response}
+use Rattle.model.specs.history.Noted.{Noted}
+use Rattle.model.specs.history.Handled.{Handled, Answers, AnswersEach, AnswersOrWears, IsHousekeeping, Looking}
+use Rattle.model.specs.history.Handled.Handled.{Entered, Stayed}
+use Rattle.model.specs.history.Connections.{Entries, only_in, at_shard, worn_at, IsConnection, AreParts}
 use Rattle.model.proofs.Answering.{answers_more}
 
 cond_more : (b : Bool) (h : Handled) (xs ys more : List Handled) → ys ≡ xs ++ more → cond b (h ∷ ys) ys ≡ cond b (h ∷ xs) xs ++ more

@@ -5,13 +5,13 @@ use Rattle.std.specs.List.{All}
 use Rattle.std.proofs.lemmas.List.{take-append-drop, length-append}
 use Rattle.std.proofs.lemmas.List.Elements.{All-nil, All-cons, All-append, All-take, All-drop}
 use Rattle.std.proofs.Math.Seq.{drop-append_seam, take-append_seam}
-use Rattle.model.specs.Log.{TopicPart, Row, Log}
-use Rattle.model.specs.Forms.{reason_of}
-use Rattle.model.specs.Walk.{Lot, Item, Rule, Walked, unwalked, walk, walk_part, is_full, with_row, or_first, turned}
-use Rattle.model.specs.World.{Key, Format, Consumer, touched}
-use Rattle.model.specs.Entry.{Event, Reply, Turn, IsLinks}
-use Rattle.model.specs.Entry.Reply.{Broker, Shown, Unread}
-use Rattle.model.specs.Look.{IsLook, IsCut_off, IsWalked, LookEnds, HasNone, at_most, after_events, reads_in, Sends, IsReady}
+use Rattle.model.specs.state.Log.{TopicPart, Row, Log}
+use Rattle.model.specs.state.Forms.{reason_of}
+use Rattle.model.specs.step.Walk.{Lot, Item, Rule, Walked, unwalked, walk, walk_part, is_full, with_row, or_first, turned}
+use Rattle.model.specs.state.World.{Key, Format, Consumer, touched}
+use Rattle.model.specs.state.Entry.{Event, Reply, Turn, IsLinks}
+use Rattle.model.specs.state.Entry.Reply.{Broker, Shown, Unread}
+use Rattle.model.specs.step.Look.{IsLook, IsCut_off, IsWalked, LookEnds, HasNone, at_most, after_events, reads_in, Sends, IsReady}
 use Rattle.model.proofs.Walks.{walk-stopped, walk-on}
 
 -- a row was taken, or one was met that doesn't read

@@ -2,15 +2,15 @@
 use Rattle.std.proofs.Common.{◌≡◌, ℕ, ◌<◌, ◌≤◌, ◌*◌, Bool, true, false, List, [], ◌∷◌, length, refl, ap, sym, subst, ◌∙◌, inl, inr, arith, Option, Some, None}
 use Rattle.std.specs.Prelude.{◌⊎◌, IsSome, nat_le}
 use Rattle.std.proofs.lemmas.Bool.Decides.{nat_tests}
-use Rattle.model.specs.Log.{TopicPart, Row}
-use Rattle.model.specs.Walk.{Item, Lot, Rule, Walked, unwalked, walk, walk_part, is_full, with_row, or_first, bytes_of}
-use Rattle.model.specs.World.{Format, Consumer, touched}
-use Rattle.model.specs.Entry.{Event, Reply, Turn}
-use Rattle.model.specs.Entry.Event.{Looked}
-use Rattle.model.specs.Entry.Reply.{Shown, Unread}
-use Rattle.model.specs.Forms.{reason_of}
+use Rattle.model.specs.state.Log.{TopicPart, Row}
+use Rattle.model.specs.step.Walk.{Item, Lot, Rule, Walked, unwalked, walk, walk_part, is_full, with_row, or_first, bytes_of}
+use Rattle.model.specs.state.World.{Format, Consumer, touched}
+use Rattle.model.specs.state.Entry.{Event, Reply, Turn}
+use Rattle.model.specs.state.Entry.Event.{Looked}
+use Rattle.model.specs.state.Entry.Reply.{Shown, Unread}
+use Rattle.model.specs.state.Forms.{reason_of}
 use Rattle.model.proofs.Walks.{walk-stopped, walk-on}
-use Rattle.model.specs.Look.{reads_in, moved, IsReady, IsUnread, IsShown, IsPut_off, LookEnds}
+use Rattle.model.specs.step.Look.{reads_in, moved, IsReady, IsUnread, IsShown, IsPut_off, LookEnds}
 
 -- the same marks, reply and consumer
 abbrev pub Same : List Event → Option Reply → Option Consumer → List Event → Option Reply → Option Consumer → Type 0

@@ -2,20 +2,20 @@
 use Rattle.std.proofs.Common.{◌≡◌, ℕ, zero, suc, ◌+◌, ◌<◌, ◌≤◌, Bool, true, false, cond, List, [], ◌∷◌, length, slice_index_or, refl, subst, inl, inr, arith, Some, None}
 use Rattle.std.specs.Prelude.{pos, bytes_eq, ◌^◌, codes}
 use Rattle.std.specs.List.{All}
-use Rattle.model.specs.Log.{TopicPart, Row, IsPart, IsLog, part_at, from}
+use Rattle.model.specs.state.Log.{TopicPart, Row, IsPart, IsLog, part_at, from}
 use mathlib.Core.List.{IsPrefix}
 use Rattle.std.proofs.lemmas.List.Elements.{All-head}
-use Rattle.model.specs.Look.{AtHand}
-use Rattle.model.specs.Walk.{Place, Lot}
-use Rattle.model.specs.World.{Key, is_key, Consumer, IsInOrder, IsLow, IsConsumer, fresh, nobody}
-use Rattle.model.specs.World.Format.{Binary}
-use Rattle.model.specs.Entry.{Act, Event, Reply}
-use Rattle.model.specs.Entry.Act.{Create, Assign, Records}
-use Rattle.model.specs.Entry.Event.{Looked}
-use Rattle.model.specs.Entry.Reply.{Done, Made, Shown}
-use Rattle.model.specs.Step.{IsIdle, IsExpired, Acts, Step}
-use Rattle.model.specs.Legal.{Counts, Legal, no_tally}
-use Rattle.model.specs.Example.{turn, orders, row, one_row, reader, settings, shown_item, ready, behind, with_one, entry, history}
+use Rattle.model.specs.step.Look.{AtHand}
+use Rattle.model.specs.step.Walk.{Place, Lot}
+use Rattle.model.specs.state.World.{Key, is_key, Consumer, IsInOrder, IsLow, IsConsumer, fresh, nobody}
+use Rattle.model.specs.state.World.Format.{Binary}
+use Rattle.model.specs.state.Entry.{Act, Event, Reply}
+use Rattle.model.specs.state.Entry.Act.{Create, Assign, Records}
+use Rattle.model.specs.state.Entry.Event.{Looked}
+use Rattle.model.specs.state.Entry.Reply.{Done, Made, Shown}
+use Rattle.model.specs.step.Step.{IsIdle, IsExpired, Acts, Step}
+use Rattle.model.specs.history.Legal.{Counts, Legal, no_tally}
+use Rattle.model.specs.examples.Example.{turn, orders, row, one_row, reader, settings, shown_item, ready, behind, with_one, entry, history}
 use Rattle.model.proofs.Stretches.{keeps_itself}
 
 pub is_log : IsLog one_row

@@ -1,14 +1,14 @@
 -- The example history of expiry is legal, step by step.
 use Rattle.std.proofs.Common.{◌≡◌, ℕ, ◌+◌, ◌≤◌, Bool, true, false, cond, [], ◌∷◌, refl, sym, subst, inl, arith, Option, Some, None}
 use Rattle.std.specs.Prelude.{codes, IsTrue}
-use Rattle.model.specs.World.{Key, is_key, Consumer, IsConsumer}
-use Rattle.model.specs.World.Edge.{Start}
-use Rattle.model.specs.Entry.Act.{Create, Subscription}
-use Rattle.model.specs.Entry.Reply.{Made, Names, Refused}
-use Rattle.model.specs.Step.{IsIdle, IsExpired, Step, is_among}
-use Rattle.model.specs.Legal.{Counts, Legal, no_tally}
-use Rattle.model.specs.Readings.{reader, settings_of}
-use Rattle.model.specs.Expiring.{entry_at, used_at, only_at, nobody_at, made_used_gone}
+use Rattle.model.specs.state.World.{Key, is_key, Consumer, IsConsumer}
+use Rattle.model.specs.state.World.Edge.{Start}
+use Rattle.model.specs.state.Entry.Act.{Create, Subscription}
+use Rattle.model.specs.state.Entry.Reply.{Made, Names, Refused}
+use Rattle.model.specs.step.Step.{IsIdle, IsExpired, Step, is_among}
+use Rattle.model.specs.history.Legal.{Counts, Legal, no_tally}
+use Rattle.model.specs.examples.Readings.{reader, settings_of}
+use Rattle.model.specs.examples.Expiring.{entry_at, used_at, only_at, nobody_at, made_used_gone}
 use Rattle.model.proofs.Readings.{empty_log, log_is_empty, only_one}
 use Rattle.model.proofs.Moves.{same_from_is_key}
 use Rattle.model.proofs.Stretches.{keeps_itself}

@@ -3,8 +3,8 @@ use Rattle.std.proofs.Common.{◌≡◌, ℕ, ◌==◌, ◌&&◌, Bool, true, Li
 use Rattle.std.specs.Prelude.{not}
 use Rattle.std.specs.List.{list_all}
 use Rattle.std.proofs.lemmas.Bool.Decides.{nat_tests}
-use Rattle.model.specs.World.{Key, key_bytes}
-use Rattle.model.specs.Names.{is_word, IsKey}
+use Rattle.model.specs.state.World.{Key, key_bytes}
+use Rattle.model.specs.state.Names.{is_word, IsKey}
 
 -- a byte that a word may have
 abbrev is_letter : ℕ → Bool

@@ -1,27 +1,27 @@
 -- A rebalance that is fixed by the look after the one that was given it is legal, and connections follow one whose pass was worn out.
 use Rattle.std.proofs.Common.{cond, ◌≡◌, ℕ, zero, suc, ◌<◌, ◌==◌, Bool, true, false, List, [], ◌∷◌, ◌++◌, slice_index_or, refl, sym, subst, inl, inr, arith, Some, None}
 use Rattle.std.specs.Prelude.{pos, codes, IsTrue, Contains}
-use Rattle.model.specs.Log.{TopicPart}
-use Rattle.model.specs.World.{fresh, nobody}
-use Rattle.model.specs.World.Edge.{Start}
-use Rattle.model.specs.World.Format.{Binary}
-use Rattle.model.specs.Entry.Act.{Create, Subscribe, Records}
-use Rattle.model.specs.Entry.Event.{Rebalanced, Looked}
-use Rattle.model.specs.Entry.Reply.{Broker, Done, Made, Shown, LinkFault}
-use Rattle.model.specs.Texts.{Response}
-use Rattle.model.specs.Look.{is_listed, Looks}
-use Rattle.model.specs.Step.{Step}
-use Rattle.model.specs.Legal.{no_tally, Tally}
-use Rattle.model.specs.Causes.{IsCaused, IsGranted, IsRebalanced}
-use Rattle.model.specs.Causes.Pumped.{Steady}
-use Rattle.model.specs.Noted.{Noted}
-use Rattle.model.specs.Handled.{AnswersOrWears, IsHousekeeping}
-use Rattle.model.specs.Handled.Handled.{Entered}
-use Rattle.model.specs.Connections.{IsConnection, only_in}
-use Rattle.model.specs.Waiting.{waiting}
-use Rattle.model.specs.Readings.{orders, other_orders, reader, only, turn, entry, settings_of}
-use Rattle.model.specs.Subscribing.{both, none_committed, both_at, member, first_items}
-use Rattle.model.specs.Rights.{earlier, later, late, LateRebalancesAreLegal, LateRebalancesAreSteps, LaterCodesMayBeTold, RefusedAutoCommitsMayPass, WantMayFollowCodes, worn_look, house, answer_of, WornConnectionsAreFollowed}
+use Rattle.model.specs.state.Log.{TopicPart}
+use Rattle.model.specs.state.World.{fresh, nobody}
+use Rattle.model.specs.state.World.Edge.{Start}
+use Rattle.model.specs.state.World.Format.{Binary}
+use Rattle.model.specs.state.Entry.Act.{Create, Subscribe, Records}
+use Rattle.model.specs.state.Entry.Event.{Rebalanced, Looked}
+use Rattle.model.specs.state.Entry.Reply.{Broker, Done, Made, Shown, LinkFault}
+use Rattle.model.specs.texts.Texts.{Response}
+use Rattle.model.specs.step.Look.{is_listed, Looks}
+use Rattle.model.specs.step.Step.{Step}
+use Rattle.model.specs.history.Legal.{no_tally, Tally}
+use Rattle.model.specs.history.Causes.{IsCaused, IsGranted, IsRebalanced}
+use Rattle.model.specs.history.Causes.Pumped.{Steady}
+use Rattle.model.specs.history.Noted.{Noted}
+use Rattle.model.specs.history.Handled.{AnswersOrWears, IsHousekeeping}
+use Rattle.model.specs.history.Handled.Handled.{Entered}
+use Rattle.model.specs.history.Connections.{IsConnection, only_in}
+use Rattle.model.specs.examples.Waiting.{waiting}
+use Rattle.model.specs.examples.Readings.{orders, other_orders, reader, only, turn, entry, settings_of}
+use Rattle.model.specs.examples.Subscribing.{both, none_committed, both_at, member, first_items}
+use Rattle.model.specs.examples.Rights.{earlier, later, late, LateRebalancesAreLegal, LateRebalancesAreSteps, LaterCodesMayBeTold, RefusedAutoCommitsMayPass, WantMayFollowCodes, worn_look, house, answer_of, WornConnectionsAreFollowed}
 use Rattle.model.proofs.Stretches.{keeps_itself}
 use Rattle.model.proofs.Subscribing.{own_step, rebalances, produces, makes, subscribes, is_unplaced, is_member, no_rows, no_rows_is_log, both_is_log, in_order}
 

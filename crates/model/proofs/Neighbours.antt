@@ -1,13 +1,13 @@
 -- What a step does to the consumers that its call isn't of.
 use Rattle.std.proofs.Common.{[], ◌∷◌, ◌≤◌, arith, ◌≡◌, ℕ, Bool, true, false, cond, List, refl, ap, ◌∙◌, inl, inr, Option, Some, None}
 use Rattle.std.specs.Prelude.{◌⊎◌, ◌≢◌}
-use Rattle.model.specs.Log.{Log}
-use Rattle.model.specs.World.{Key, Consumer, World}
-use Rattle.model.specs.Entry.{Call, Event, Reply, Turn, Entry, is_of}
-use Rattle.model.specs.Entry.Call.{Produce, Ask, Of}
-use Rattle.model.specs.Entry.Reply.{Want}
-use Rattle.model.specs.Step.{IsIdle, Does, Whole, Starved, Step, left, is_among}
-use Rattle.model.specs.Legal.{Tally, Run}
+use Rattle.model.specs.state.Log.{Log}
+use Rattle.model.specs.state.World.{Key, Consumer, World}
+use Rattle.model.specs.state.Entry.{Call, Event, Reply, Turn, Entry, is_of}
+use Rattle.model.specs.state.Entry.Call.{Produce, Ask, Of}
+use Rattle.model.specs.state.Entry.Reply.{Want}
+use Rattle.model.specs.step.Step.{IsIdle, Does, Whole, Starved, Step, left, is_among}
+use Rattle.model.specs.history.Legal.{Tally, Run}
 
 others_stay : (moment : ℕ) (turn : Turn) (call : Option Call) (a : Log) (events : List Event) (reply : Option Reply) (b : Log) (v w : Key → Option Consumer) (key : Key)
     → is_of key call ≡ false → Does moment turn call a events reply b v w → w key ≡ v key

@@ -1,13 +1,13 @@
 -- One step more: entries that stand for a history stand for the one that goes on by it.
 use Rattle.std.proofs.Common.{ℕ, List, [], ◌∷◌, ◌++◌, refl, arith, Option}
 use Rattle.std.specs.Prelude.{ℤ}
-use Rattle.model.specs.Log.{Log, IsLog, TopicPart}
-use Rattle.model.specs.World.{Format, World, nobody}
-use Rattle.model.specs.Forms.{Showing}
-use Rattle.model.specs.Entry.{Entry}
-use Rattle.model.specs.Legal.{Counts, no_tally}
-use Rattle.model.specs.Nodes.{Heard}
-use Rattle.model.specs.Noted.{Noted, IsWritten, AreWritten, StandsFor, Stepped}
+use Rattle.model.specs.state.Log.{Log, IsLog, TopicPart}
+use Rattle.model.specs.state.World.{Format, World, nobody}
+use Rattle.model.specs.state.Forms.{Showing}
+use Rattle.model.specs.state.Entry.{Entry}
+use Rattle.model.specs.history.Legal.{Counts, no_tally}
+use Rattle.model.specs.history.Nodes.{Heard}
+use Rattle.model.specs.history.Noted.{Noted, IsWritten, AreWritten, StandsFor, Stepped}
 use Rattle.model.proofs.Causes.{caused_is_paid}
 
 written_more : (advertise : List ℕ) (shown : List (List ℕ) → Format → Option (List ℕ) → Showing) (noted : List Noted) (history : List Entry) (n : Noted) (e : Entry)

@@ -1,20 +1,20 @@
 -- What a step owes shows in its entry.
 use Rattle.std.proofs.Common.{◌≡◌, ℕ, true, List, [], ◌∷◌, ◌++◌, map, refl, sym, ap, subst, ◌∙◌, Option, Some}
 use Rattle.std.specs.Prelude.{ℤ, ◌⊎◌, ◌↔◌, ◌≢◌, Contains, IsTrue}
-use Rattle.model.specs.Log.{Log, TopicPart}
-use Rattle.model.specs.Walk.{Place}
-use Rattle.model.specs.World.{Key, Format, Consumer, World}
-use Rattle.model.specs.Forms.{Showing}
-use Rattle.model.specs.Entry.{Call}
-use Rattle.model.specs.Entry.Act.{Records}
-use Rattle.model.specs.Entry.Call.{Of}
-use Rattle.model.specs.Entry.Reply.{Broker, Want}
-use Rattle.model.specs.Look.{is_listed}
-use Rattle.model.specs.Step.{left}
-use Rattle.model.specs.Legal.{Counts}
-use Rattle.model.specs.Nodes.{Heard}
-use Rattle.model.specs.Causes.{IsRebalanced, by_code, first_of, first_unpassed, is_commit, is_records, placed_in}
-use Rattle.model.specs.Noted.{CallsWell, FindsWell, Noted, Stepped}
+use Rattle.model.specs.state.Log.{Log, TopicPart}
+use Rattle.model.specs.step.Walk.{Place}
+use Rattle.model.specs.state.World.{Key, Format, Consumer, World}
+use Rattle.model.specs.state.Forms.{Showing}
+use Rattle.model.specs.state.Entry.{Call}
+use Rattle.model.specs.state.Entry.Act.{Records}
+use Rattle.model.specs.state.Entry.Call.{Of}
+use Rattle.model.specs.state.Entry.Reply.{Broker, Want}
+use Rattle.model.specs.step.Look.{is_listed}
+use Rattle.model.specs.step.Step.{left}
+use Rattle.model.specs.history.Legal.{Counts}
+use Rattle.model.specs.history.Nodes.{Heard}
+use Rattle.model.specs.history.Causes.{IsRebalanced, by_code, first_of, first_unpassed, is_commit, is_records, placed_in}
+use Rattle.model.specs.history.Noted.{CallsWell, FindsWell, Noted, Stepped}
 use Rattle.model.proofs.Pins.{shares_of}
 
 -- what two lists add to the same one is the same

@@ -2,10 +2,10 @@
 use Rattle.std.proofs.Common.{◌≡◌, ℕ, ◌+◌, ◌≤◌, Bool, true, false, cond, List, [], ◌∷◌, refl, ap, ◌∙◌, arith}
 use Rattle.std.specs.List.{count_by}
 use Rattle.std.proofs.lemmas.List.Sums.{sum_by-cons}
-use Rattle.model.specs.Log.{Log}
-use Rattle.model.specs.World.{World}
-use Rattle.model.specs.Entry.{Entry}
-use Rattle.model.specs.Legal.{Tally, Run, Counts, Legal, is_fault, is_refusal, entry_tally, one_if}
+use Rattle.model.specs.state.Log.{Log}
+use Rattle.model.specs.state.World.{World}
+use Rattle.model.specs.state.Entry.{Entry}
+use Rattle.model.specs.history.Legal.{Tally, Run, Counts, Legal, is_fault, is_refusal, entry_tally, one_if}
 
 record IsCounted (entries : List Entry) (n : Tally) : Type 0 where
   pub faults : count_by (λ (e : Entry). is_fault e.reply) entries ≤ n.faults

@@ -7,28 +7,28 @@ use Rattle.std.proofs.lemmas.List.{append-nil}
 use Rattle.std.proofs.lemmas.List.Sums.{sum_by-cons}
 use Rattle.std.proofs.lemmas.List.Elements.{All-contains, All-cons, All-head, All-nil}
 use Rattle.std.proofs.lemmas.Slice.Eq.{bytes_eq-Decides}
-use Rattle.model.specs.Log.{TopicPart, Log, part_at}
-use Rattle.model.specs.Walk.{Place, Lot, Item, rows_at}
-use Rattle.model.specs.World.{Key, is_key, Settings, Format, Consumer, World, touched, position_in}
-use Rattle.model.specs.World.{Mode}
-use Rattle.model.specs.World.Mode.{ByTopics}
-use Rattle.model.specs.Entry.{Event, Reply, Turn, Entry, Call, PartTold, Placed, Batch, Given}
-use Rattle.model.specs.Entry.Act.{Create, Delete, Subscription, Unsubscribe, Assignments, Subscribe, Assign, Fixed, Seek, SeekEdge, Commit, Records}
-use Rattle.model.specs.Entry.Call.{Produce, Ask, Of}
-use Rattle.model.specs.Entry.Event.{Committed, Rebalanced, Reset, Looked}
-use Rattle.model.specs.Entry.Placed.{Failed}
-use Rattle.model.specs.Entry.Question.{Brokers}
-use Rattle.model.specs.Entry.Reply.{Done, Answers, Broker, Nodes, Refused, Shown, Told, Want}
-use Rattle.model.specs.Fixed.{IsOutside}
-use Rattle.model.specs.Look.{Looks, allows, is_listed}
-use Rattle.model.specs.Step.{Live, Gone, Acts, Step, Whole, Starved, Does, Tells, is_by_topics, left, sent_of, first_code, saved_if, IsDone, IsWanting, EndsIf}
-use Rattle.model.specs.Legal.{Counts, Tally, Run, Legal, Ran, AreLive, event_tally, events_tally, call_tally, entry_tally, is_fault, one_if}
-use Rattle.model.specs.Causes.{IsCaused, is_commit, is_records, IsRebalanced, IsPumped, Rises, Pumped, has_looked, is_out, placed_in, Rebalances, to_fix}
-use Rattle.model.specs.Causes.Pumped.{Unpumped, Steady, NotYet, Lost, Shared}
-use Rattle.model.specs.Sessions.{IsCodeOf, IsQuiet, IsTooLarge, records_for, records_of}
-use Rattle.model.specs.Buffers.{Fetches, IsBuffered, IsFetched, buffered_at, rows_at_hand}
-use Rattle.model.specs.Nodes.{Heard, HasNodes}
-use Rattle.model.specs.Pinned.{rebalances_in, rebalances_of}
+use Rattle.model.specs.state.Log.{TopicPart, Log, part_at}
+use Rattle.model.specs.step.Walk.{Place, Lot, Item, rows_at}
+use Rattle.model.specs.state.World.{Key, is_key, Settings, Format, Consumer, World, touched, position_in}
+use Rattle.model.specs.state.World.{Mode}
+use Rattle.model.specs.state.World.Mode.{ByTopics}
+use Rattle.model.specs.state.Entry.{Event, Reply, Turn, Entry, Call, PartTold, Placed, Batch, Given}
+use Rattle.model.specs.state.Entry.Act.{Create, Delete, Subscription, Unsubscribe, Assignments, Subscribe, Assign, Fixed, Seek, SeekEdge, Commit, Records}
+use Rattle.model.specs.state.Entry.Call.{Produce, Ask, Of}
+use Rattle.model.specs.state.Entry.Event.{Committed, Rebalanced, Reset, Looked}
+use Rattle.model.specs.state.Entry.Placed.{Failed}
+use Rattle.model.specs.state.Entry.Question.{Brokers}
+use Rattle.model.specs.state.Entry.Reply.{Done, Answers, Broker, Nodes, Refused, Shown, Told, Want}
+use Rattle.model.specs.step.Fixed.{IsOutside}
+use Rattle.model.specs.step.Look.{Looks, allows, is_listed}
+use Rattle.model.specs.step.Step.{Live, Gone, Acts, Step, Whole, Starved, Does, Tells, is_by_topics, left, sent_of, first_code, saved_if, IsDone, IsWanting, EndsIf}
+use Rattle.model.specs.history.Legal.{Counts, Tally, Run, Legal, Ran, AreLive, event_tally, events_tally, call_tally, entry_tally, is_fault, one_if}
+use Rattle.model.specs.history.Causes.{IsCaused, is_commit, is_records, IsRebalanced, IsPumped, Rises, Pumped, has_looked, is_out, placed_in, Rebalances, to_fix}
+use Rattle.model.specs.history.Causes.Pumped.{Unpumped, Steady, NotYet, Lost, Shared}
+use Rattle.model.specs.history.Sessions.{IsCodeOf, IsQuiet, IsTooLarge, records_for, records_of}
+use Rattle.model.specs.step.Buffers.{Fetches, IsBuffered, IsFetched, buffered_at, rows_at_hand}
+use Rattle.model.specs.history.Nodes.{Heard, HasNodes}
+use Rattle.model.specs.examples.Pinned.{rebalances_in, rebalances_of}
 use Rattle.model.proofs.Singles.{short_by, same_mark}
 
 pub nodes_rise : (a b : Log) (nodes : List ℤ) → Tells Brokers a b (Nodes nodes) → AllPairs (λ x y. x <ℤ y) nodes

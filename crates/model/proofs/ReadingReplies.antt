@@ -2,11 +2,11 @@
 use Rattle.std.proofs.Common.{◌≡◌, refl}
 use Rattle.std.specs.Fmt.{digits}
 use Rattle.json.specs.Print.{escape_byte}
-use Rattle.model.specs.Readings.{read_by_one, read_after_seek, read_from_the_start, read_from_the_end}
-use Rattle.model.specs.Subscribing.{read_by_subscription}
-use Rattle.model.specs.Asking.{questions}
-use Rattle.model.specs.ReadingReplies.{told_of_topics, replies_of, one_by_one, after_seek, from_the_start, from_the_end, by_subscription, made_again}
-use Rattle.model.specs.Expiring.{made_used_gone}
+use Rattle.model.specs.examples.Readings.{read_by_one, read_after_seek, read_from_the_start, read_from_the_end}
+use Rattle.model.specs.examples.Subscribing.{read_by_subscription}
+use Rattle.model.specs.examples.Asking.{questions}
+use Rattle.model.specs.examples.ReadingReplies.{told_of_topics, replies_of, one_by_one, after_seek, from_the_start, from_the_end, by_subscription, made_again}
+use Rattle.model.specs.examples.Expiring.{made_used_gone}
 
 pub read_by_one_replies : replies_of read_by_one ≡ one_by_one
 unfolding digits escape_byte

@@ -5,24 +5,24 @@ use Rattle.std.specs.List.{All}
 use Rattle.std.proofs.lemmas.List.Elements.{All-head, All-nil}
 use Rattle.std.proofs.lemmas.List.{append-nil}
 use mathlib.Core.List.{IsPrefix}
-use Rattle.model.specs.Log.{TopicPart, is_at, Row, Log, IsPart, IsLog, Keeps, KeepsPart, part_at, from}
-use Rattle.model.specs.Walk.{Place, Lot, Walked, Item, unwalked, walk}
-use Rattle.model.specs.World.{touched, Key, is_key, Edge, Consumer, IsInOrder, IsLow, IsConsumer, fresh, nobody, World}
-use Rattle.model.specs.World.Format.{Binary}
-use Rattle.model.specs.World.Edge.{Start, End}
-use Rattle.model.specs.Entry.{Act, Event, Reply, Entry}
-use Rattle.model.specs.Entry.Act.{Assign, Seek, SeekEdge, Records}
-use Rattle.model.specs.Entry.Event.{Committed, Reset, Looked}
-use Rattle.model.specs.Entry.Reply.{Done, Shown}
-use Rattle.model.specs.Fixed.{Commits, SameCommits, IsOutside, edge_of}
-use Rattle.model.specs.Look.{AtHand, HasNone, at_most, reads_in, IsReady, IsWalked, moved, Looks}
-use Rattle.model.specs.Forms.{reason_of}
-use Rattle.model.specs.Produced.{has_room, Places}
-use Rattle.model.specs.Entry.Placed.{Stored}
-use Rattle.model.specs.Entry.Reply.{Answers, Refused}
-use Rattle.model.specs.Step.{IsIdle, IsExpired, Acts, AllAssigned, IsProduced, Step}
-use Rattle.model.specs.Legal.{Counts, Legal, Run, no_tally}
-use Rattle.model.specs.Readings.{orders, kafka_at, three, four, reader, other_orders, given, log_of, settings_of, place_at, reader_at, only, turn, entry, three_produced, one_produced, made, read, items_of, read_by_one, read_after_seek, read_from_the_start, read_from_the_end}
+use Rattle.model.specs.state.Log.{TopicPart, is_at, Row, Log, IsPart, IsLog, Keeps, KeepsPart, part_at, from}
+use Rattle.model.specs.step.Walk.{Place, Lot, Walked, Item, unwalked, walk}
+use Rattle.model.specs.state.World.{touched, Key, is_key, Edge, Consumer, IsInOrder, IsLow, IsConsumer, fresh, nobody, World}
+use Rattle.model.specs.state.World.Format.{Binary}
+use Rattle.model.specs.state.World.Edge.{Start, End}
+use Rattle.model.specs.state.Entry.{Act, Event, Reply, Entry}
+use Rattle.model.specs.state.Entry.Act.{Assign, Seek, SeekEdge, Records}
+use Rattle.model.specs.state.Entry.Event.{Committed, Reset, Looked}
+use Rattle.model.specs.state.Entry.Reply.{Done, Shown}
+use Rattle.model.specs.step.Fixed.{Commits, SameCommits, IsOutside, edge_of}
+use Rattle.model.specs.step.Look.{AtHand, HasNone, at_most, reads_in, IsReady, IsWalked, moved, Looks}
+use Rattle.model.specs.state.Forms.{reason_of}
+use Rattle.model.specs.step.Produced.{has_room, Places}
+use Rattle.model.specs.state.Entry.Placed.{Stored}
+use Rattle.model.specs.state.Entry.Reply.{Answers, Refused}
+use Rattle.model.specs.step.Step.{IsIdle, IsExpired, Acts, AllAssigned, IsProduced, Step}
+use Rattle.model.specs.history.Legal.{Counts, Legal, Run, no_tally}
+use Rattle.model.specs.examples.Readings.{orders, kafka_at, three, four, reader, other_orders, given, log_of, settings_of, place_at, reader_at, only, turn, entry, three_produced, one_produced, made, read, items_of, read_by_one, read_after_seek, read_from_the_start, read_from_the_end}
 use Rattle.model.proofs.Stretches.{keeps_itself}
 
 -- rows whose offsets are 0, 1 and so on

@@ -3,17 +3,17 @@ use Rattle.std.proofs.Common.{◌++◌, ◌≡◌, ℕ, true, false, List, [], �
 use Rattle.std.specs.Prelude.{◌⊎◌, pos}
 use Rattle.std.specs.List.{All}
 use Rattle.std.proofs.lemmas.List.Elements.{All-nil, All-cons}
-use Rattle.model.specs.Log.{TopicPart, is_at, Log}
+use Rattle.model.specs.state.Log.{TopicPart, is_at, Log}
 use Rattle.model.proofs.Walks.{is_at_itself}
-use Rattle.model.specs.Walk.{Place, Walked}
-use Rattle.model.specs.World.{Key, Edge, Consumer, once_parts, position_in, touched, Format, Unset}
-use Rattle.model.specs.World.Format.{Json}
-use Rattle.model.specs.Entry.{Event, Reply, Turn, Committed, IsLinks, Refused, Want, Reset}
-use Rattle.model.specs.Entry.Act.{Delete, Seek, Records}
-use Rattle.model.specs.Entry.Reply.{Done, Broker, LinkFault}
-use Rattle.model.specs.Fixed.{SameCommits, HasPart, fixed_at, Fixes}
-use Rattle.model.specs.Look.{allows, Places, IsLook, is_due, is_listed, Looks, placed_event, Sends, LookEnds, at_most, after_events, IsCut_off, IsWalked, saved_event}
-use Rattle.model.specs.Step.{Live, EndsAlone, AllAssigned, at_positions, IsRefused, IsDone}
+use Rattle.model.specs.step.Walk.{Place, Walked}
+use Rattle.model.specs.state.World.{Key, Edge, Consumer, once_parts, position_in, touched, Format, Unset}
+use Rattle.model.specs.state.World.Format.{Json}
+use Rattle.model.specs.state.Entry.{Event, Reply, Turn, Committed, IsLinks, Refused, Want, Reset}
+use Rattle.model.specs.state.Entry.Act.{Delete, Seek, Records}
+use Rattle.model.specs.state.Entry.Reply.{Done, Broker, LinkFault}
+use Rattle.model.specs.step.Fixed.{SameCommits, HasPart, fixed_at, Fixes}
+use Rattle.model.specs.step.Look.{allows, Places, IsLook, is_due, is_listed, Looks, placed_event, Sends, LookEnds, at_most, after_events, IsCut_off, IsWalked, saved_event}
+use Rattle.model.specs.step.Step.{Live, EndsAlone, AllAssigned, at_positions, IsRefused, IsDone}
 
 -- a Records call that Accept refuses commits nothing
 pub refused_look : (key : Key) (turn : Turn) (c : Consumer) (a : Log) (events : List Event) (reply : Option Reply) (b : Log) (c2 : Option Consumer)

@@ -3,19 +3,19 @@ use Rattle.std.proofs.Common.{◌≡◌, ℕ, zero, suc, ◌<◌, ◌≤◌, ◌
 use Rattle.std.specs.Prelude.{ℤ, pos, filter, is_none, ◌⊎◌, ◌↔◌, ◌≢◌, Contains, AllPairs, ◌==◌, IsSome}
 use Rattle.std.specs.Ordering.{is_lt, nat_cmp}
 use Rattle.std.specs.Cmp.Lexicographic.{slice_cmp}
-use Rattle.model.specs.Log.{TopicPart, Log}
-use Rattle.model.specs.Walk.{Place}
-use Rattle.model.specs.World.{Key, key_bytes, Consumer, World, names_rise, touched}
-use Rattle.model.specs.World.Mode.{Unset, ByTopics, Assigned}
-use Rattle.model.specs.Entry.{Event, Reply, Turn, Entry, is_zero, IsLinks}
-use Rattle.model.specs.Entry.Act.{Commit, Subscribe, Assign, Delete}
-use Rattle.model.specs.Entry.Event.{Committed, Reset}
-use Rattle.model.specs.Entry.Reply.{Done, Broker, Refused, Want}
-use Rattle.model.specs.Fixed.{Commits, SameCommits}
-use Rattle.model.specs.Look.{IsLook, is_due, is_passed, is_passed_reply, Saves, Places, IsUnsaved, saved_event, placed_event}
-use Rattle.model.specs.Acts.{Live}
-use Rattle.model.specs.Single.{ThreeCodesArePassedOver}
-use Rattle.model.specs.Step.{Step, Whole, Starved, sent_of, same_names, is_in_force, first_code, IsCommitted, IsDone, IsWanting, IsCut, EndsIf, saved_if, as_assigned}
+use Rattle.model.specs.state.Log.{TopicPart, Log}
+use Rattle.model.specs.step.Walk.{Place}
+use Rattle.model.specs.state.World.{Key, key_bytes, Consumer, World, names_rise, touched}
+use Rattle.model.specs.state.World.Mode.{Unset, ByTopics, Assigned}
+use Rattle.model.specs.state.Entry.{Event, Reply, Turn, Entry, is_zero, IsLinks}
+use Rattle.model.specs.state.Entry.Act.{Commit, Subscribe, Assign, Delete}
+use Rattle.model.specs.state.Entry.Event.{Committed, Reset}
+use Rattle.model.specs.state.Entry.Reply.{Done, Broker, Refused, Want}
+use Rattle.model.specs.step.Fixed.{Commits, SameCommits}
+use Rattle.model.specs.step.Look.{IsLook, is_due, is_passed, is_passed_reply, Saves, Places, IsUnsaved, saved_event, placed_event}
+use Rattle.model.specs.step.Acts.{Live}
+use Rattle.model.specs.history.Single.{ThreeCodesArePassedOver}
+use Rattle.model.specs.step.Step.{Step, Whole, Starved, sent_of, same_names, is_in_force, first_code, IsCommitted, IsDone, IsWanting, IsCut, EndsIf, saved_if, as_assigned}
 
 -- all rows were taken where no code is answered
 all_taken : (code : Place → ℤ) (rows : List Place) → first_code code rows ≡ Done → filter (λ row. is_zero (code row)) rows ≡ rows

@@ -3,17 +3,17 @@ use Rattle.std.proofs.Common.{◌≡◌, ℕ, zero, suc, ◌+◌, ◌≤◌, ◌
 use Rattle.std.specs.Prelude.{ℤ, ◌⊎◌, Contains}
 use Rattle.std.specs.List.{filter, count_by}
 use Rattle.std.proofs.lemmas.List.Elements.{All-contains, Contains-append_left}
-use Rattle.model.specs.Log.{TopicPart, is_at, Row, Rises, Log, Keeps, part_at, from, rows_between}
-use Rattle.model.specs.Walk.{Item, rows_at}
-use Rattle.model.specs.World.{Key, World, position_of}
-use Rattle.model.specs.Entry.{Given, Entry, Payload, IsLinks, is_zero, shown_to}
-use Rattle.model.specs.Entry.Call.{Produce}
-use Rattle.model.specs.Entry.Placed.{Stored, Failed}
-use Rattle.model.specs.Entry.Reply.{Answers}
-use Rattle.model.specs.Produced.{numbered, answer_of, chosen, or_named, partition_of}
-use Rattle.model.specs.Step.{Does, parts_of, Whole, Starved, Step, IsProduced, ProduceEnds, left}
-use Rattle.model.specs.Legal.{Tally, Run}
-use Rattle.model.specs.Stretch.{is_accepted, after_all, HasStored}
+use Rattle.model.specs.state.Log.{TopicPart, is_at, Row, Rises, Log, Keeps, part_at, from, rows_between}
+use Rattle.model.specs.step.Walk.{Item, rows_at}
+use Rattle.model.specs.state.World.{Key, World, position_of}
+use Rattle.model.specs.state.Entry.{Given, Entry, Payload, IsLinks, is_zero, shown_to}
+use Rattle.model.specs.state.Entry.Call.{Produce}
+use Rattle.model.specs.state.Entry.Placed.{Stored, Failed}
+use Rattle.model.specs.state.Entry.Reply.{Answers}
+use Rattle.model.specs.step.Produced.{numbered, answer_of, chosen, or_named, partition_of}
+use Rattle.model.specs.step.Step.{Does, parts_of, Whole, Starved, Step, IsProduced, ProduceEnds, left}
+use Rattle.model.specs.history.Legal.{Tally, Run}
+use Rattle.model.specs.history.Stretch.{is_accepted, after_all, HasStored}
 use Rattle.model.proofs.Walks.{is_at_itself}
 use Rattle.model.proofs.Moves.{Moves, step_moves}
 use Rattle.model.proofs.Stretches.{run_keeps, run_cut, accepted_shows_none}

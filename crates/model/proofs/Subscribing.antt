@@ -4,23 +4,23 @@ use Rattle.std.specs.Prelude.{pos, bytes_eq, ◌^◌, codes, IsTrue, Contains}
 use Rattle.std.specs.List.{All}
 use Rattle.std.proofs.lemmas.List.Elements.{All-head, All-nil}
 use mathlib.Core.List.{IsPrefix}
-use Rattle.model.specs.Log.{TopicPart, Row, IsPart, IsLog, Log, Keeps, KeepsPart, part_at, from}
-use Rattle.model.specs.Walk.{Place, Lot, Item, unwalked}
-use Rattle.model.specs.World.{Consumer, IsInOrder, IsLow, IsConsumer, names_rise, fresh, nobody}
-use Rattle.model.specs.World.Edge.{Start}
-use Rattle.model.specs.World.Format.{Binary}
-use Rattle.model.specs.Entry.{Act, Event, Reply}
-use Rattle.model.specs.Entry.Act.{Create, Delete, Subscribe, Subscription, Unsubscribe, Assign, Assignments, Commit, Fixed, Records}
-use Rattle.model.specs.Entry.Event.{Committed, Rebalanced, Looked}
-use Rattle.model.specs.Entry.Placed.{Stored}
-use Rattle.model.specs.Entry.Reply.{Done, Made, Names, Offsets, Listed, Answers, Shown, Refused}
-use Rattle.model.specs.Produced.{Places as PlacesOf, has_room}
-use Rattle.model.specs.Fixed.{Fixes}
-use Rattle.model.specs.Look.{AtHand, HasNone, is_listed, Looks}
-use Rattle.model.specs.Step.{Acts, IsProduced, Step}
-use Rattle.model.specs.Legal.{Counts, Legal, no_tally}
-use Rattle.model.specs.Readings.{orders, other_orders, kafka_at, reader, only, turn, entry, settings_of}
-use Rattle.model.specs.Subscribing.{Commitments, both, none_committed, both_at, at_seven, once_committed, twice_committed, member, unsubscribed, given_to, first_items, both_produced, read_by_subscription, two_looks, one_look}
+use Rattle.model.specs.state.Log.{TopicPart, Row, IsPart, IsLog, Log, Keeps, KeepsPart, part_at, from}
+use Rattle.model.specs.step.Walk.{Place, Lot, Item, unwalked}
+use Rattle.model.specs.state.World.{Consumer, IsInOrder, IsLow, IsConsumer, names_rise, fresh, nobody}
+use Rattle.model.specs.state.World.Edge.{Start}
+use Rattle.model.specs.state.World.Format.{Binary}
+use Rattle.model.specs.state.Entry.{Act, Event, Reply}
+use Rattle.model.specs.state.Entry.Act.{Create, Delete, Subscribe, Subscription, Unsubscribe, Assign, Assignments, Commit, Fixed, Records}
+use Rattle.model.specs.state.Entry.Event.{Committed, Rebalanced, Looked}
+use Rattle.model.specs.state.Entry.Placed.{Stored}
+use Rattle.model.specs.state.Entry.Reply.{Done, Made, Names, Offsets, Listed, Answers, Shown, Refused}
+use Rattle.model.specs.step.Produced.{Places as PlacesOf, has_room}
+use Rattle.model.specs.step.Fixed.{Fixes}
+use Rattle.model.specs.step.Look.{AtHand, HasNone, is_listed, Looks}
+use Rattle.model.specs.step.Step.{Acts, IsProduced, Step}
+use Rattle.model.specs.history.Legal.{Counts, Legal, no_tally}
+use Rattle.model.specs.examples.Readings.{orders, other_orders, kafka_at, reader, only, turn, entry, settings_of}
+use Rattle.model.specs.examples.Subscribing.{Commitments, both, none_committed, both_at, at_seven, once_committed, twice_committed, member, unsubscribed, given_to, first_items, both_produced, read_by_subscription, two_looks, one_look}
 use Rattle.model.proofs.Readings.{empty_part, is_fresh, only_one, none_expired, log_is_empty, empty_log}
 use Rattle.model.proofs.Stretches.{keeps_itself}
 

@@ -1,20 +1,20 @@
 -- The example history of a wait is legal, and its looks serve the call.
 use Rattle.std.proofs.Common.{◌≡◌, ℕ, ◌*◌, ◌<◌, true, false, [], ◌∷◌, refl, inl, inr, arith, Option, Some, None}
 use Rattle.std.specs.Prelude.{pos, codes}
-use Rattle.model.specs.Walk.{unwalked}
-use Rattle.model.specs.World.{Consumer, fresh}
-use Rattle.model.specs.World.Edge.{Start}
-use Rattle.model.specs.World.Format.{Binary}
-use Rattle.model.specs.Entry.{Reply}
-use Rattle.model.specs.Entry.Act.{Assign}
-use Rattle.model.specs.Entry.Event.{Looked}
-use Rattle.model.specs.Entry.Reply.{Done, Shown}
-use Rattle.model.specs.Look.{is_due, LookEnds, Looks}
-use Rattle.model.specs.Step.{Step}
-use Rattle.model.specs.Legal.{Counts, Legal, no_tally}
-use Rattle.model.specs.Served.{Serves}
-use Rattle.model.specs.Readings.{orders, reader, settings_of, reader_at, only}
-use Rattle.model.specs.Waiting.{waiting, turn_of, look_of, four_looks, waited_in_vain}
+use Rattle.model.specs.step.Walk.{unwalked}
+use Rattle.model.specs.state.World.{Consumer, fresh}
+use Rattle.model.specs.state.World.Edge.{Start}
+use Rattle.model.specs.state.World.Format.{Binary}
+use Rattle.model.specs.state.Entry.{Reply}
+use Rattle.model.specs.state.Entry.Act.{Assign}
+use Rattle.model.specs.state.Entry.Event.{Looked}
+use Rattle.model.specs.state.Entry.Reply.{Done, Shown}
+use Rattle.model.specs.step.Look.{is_due, LookEnds, Looks}
+use Rattle.model.specs.step.Step.{Step}
+use Rattle.model.specs.history.Legal.{Counts, Legal, no_tally}
+use Rattle.model.specs.history.Served.{Serves}
+use Rattle.model.specs.examples.Readings.{orders, reader, settings_of, reader_at, only}
+use Rattle.model.specs.examples.Waiting.{waiting, turn_of, look_of, four_looks, waited_in_vain}
 use Rattle.model.proofs.Readings.{none_expired, only_one, empty_is_full, empty_log, log_is_empty, is_reader, at_hand, lot_at, assigns, makes, own_step}
 use Rattle.model.proofs.Stretches.{keeps_itself}
 

@@ -1,6 +1,6 @@
 //! Single answers: wrong ones that no step gives, and right ones that a step gives.
 
-ghost use Rattle.model.specs.Answers.{
+ghost use Rattle.model.specs.examples.Answers.{
   DeletesHaveNoCode,
   DueCommitsCome,
   QuietLooksHaveNoFault,

@@ -1,6 +1,6 @@
 //! What a step may commit.
 
-ghost use Rattle.model.specs.Committing.{LooksCommitPositions, OtherGroupsStay};
+ghost use Rattle.model.specs.step.Committing.{LooksCommitPositions, OtherGroupsStay};
 
 /// What a group has committed stays as it is over every step but those of its own consumers' calls.
 /// A look commits no offset but the position that its consumer had before it, which is behind the rows

@@ -1,6 +1,6 @@
 //! What the connections of one caller leave in the histories of the shards.
 
-ghost use Rattle.model.specs.Connections.{ConnectionsFollow, ConnectionsGoOn, ConnectionsWear, StayingAddsNothing};
+ghost use Rattle.model.specs.history.Connections.{ConnectionsFollow, ConnectionsGoOn, ConnectionsWear, StayingAddsNothing};
 
 /// A connection's entries in the shards go on by those of a call that is answered, which stand in the
 /// shard of its key alone; by none for a request that is answered without a turn; and by the looks of

@@ -1,18 +1,18 @@
 //! Example histories of reading.
 
 ghost use Rattle.std.specs.Prelude.{ℕ, ◌≤◌, ◌≡◌, true, false, [], Some, None};
-ghost use Rattle.model.specs.Legal.{Counts, Legal};
-ghost use Rattle.model.specs.Served.{Serves};
-ghost use Rattle.model.specs.World.Edge.{Start, End};
-ghost use Rattle.model.specs.Readings.{three, four, log_of, reader_at, only, read_by_one, read_after_seek, read_from_the_start, read_from_the_end};
-ghost use Rattle.model.specs.World.Format.{Binary};
-ghost use Rattle.model.specs.Entry.Reply.{Shown};
-ghost use Rattle.model.specs.Asking.{questions};
-ghost use Rattle.model.specs.Waiting.{four_looks, waited_in_vain, waiting};
-ghost use Rattle.model.specs.Expiring.{made_used_gone, only_at, used_at};
-ghost use Rattle.model.specs.Subscribing.{both, read_by_subscription, twice_committed};
-ghost use Rattle.model.specs.World.{nobody};
-ghost use Rattle.model.specs.ReadingReplies.{told_of_topics, made_again, by_subscription, replies_of, one_by_one, after_seek, from_the_start, from_the_end};
+ghost use Rattle.model.specs.history.Legal.{Counts, Legal};
+ghost use Rattle.model.specs.history.Served.{Serves};
+ghost use Rattle.model.specs.state.World.Edge.{Start, End};
+ghost use Rattle.model.specs.examples.Readings.{three, four, log_of, reader_at, only, read_by_one, read_after_seek, read_from_the_start, read_from_the_end};
+ghost use Rattle.model.specs.state.World.Format.{Binary};
+ghost use Rattle.model.specs.state.Entry.Reply.{Shown};
+ghost use Rattle.model.specs.examples.Asking.{questions};
+ghost use Rattle.model.specs.examples.Waiting.{four_looks, waited_in_vain, waiting};
+ghost use Rattle.model.specs.examples.Expiring.{made_used_gone, only_at, used_at};
+ghost use Rattle.model.specs.examples.Subscribing.{both, read_by_subscription, twice_committed};
+ghost use Rattle.model.specs.state.World.{nobody};
+ghost use Rattle.model.specs.examples.ReadingReplies.{told_of_topics, made_again, by_subscription, replies_of, one_by_one, after_seek, from_the_start, from_the_end};
 
 /// Three records that are read with `max_bytes=1`: each call shows one, and the fourth none. Every
 /// entry is a step, with these replies.

@@ -1,8 +1,8 @@
 //! What a step does to the consumers that its call isn't of.
 
-ghost use Rattle.model.specs.Legal.{MomentsRise};
-ghost use Rattle.model.specs.Names.{KeysAreApart};
-ghost use Rattle.model.specs.Step.{IdleAreGone, NeighboursStay};
+ghost use Rattle.model.specs.history.Legal.{MomentsRise};
+ghost use Rattle.model.specs.state.Names.{KeysAreApart};
+ghost use Rattle.model.specs.step.Step.{IdleAreGone, NeighboursStay};
 
 /// A step leaves every other consumer as it was, but those that have been idle for long enough: they
 /// are gone, unless memory was wanting.

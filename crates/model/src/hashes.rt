@@ -1,8 +1,8 @@
 //! Hashes on worked values.
 
 ghost use Rattle.std.specs.Prelude.{◌≡◌, ◌%◌, codes, [], Some, None};
-ghost use Rattle.model.specs.Hashes.{murmur2, partition_of, shard_of};
-ghost use Rattle.model.specs.World.{key_bytes};
+ghost use Rattle.model.specs.state.Hashes.{murmur2, partition_of, shard_of};
+ghost use Rattle.model.specs.state.World.{key_bytes};
 
 /// The hash that chooses a record's partition is murmur2 as Kafka's clients have it: of `abc` it is
 /// 479470107 without the sign bit, so partition 1 of 2, and Kafka's own tests have `21` at -973932308

@@ -1,11 +1,11 @@
 //! How a legal history goes on.
 
 ghost use Rattle.std.specs.Prelude.{ℕ, ℤ, true, codes, ◌≡◌, [], ◌∷◌, Some};
-ghost use Rattle.model.specs.Entry.Placed.{Failed};
-ghost use Rattle.model.specs.Entry.Reply.{Answers, Broker, LinkFault};
-ghost use Rattle.model.specs.Legal.{Counts, FaultsArePaid, HistoriesGoOn, Legal, RefusalsArePaid, is_fault, is_refusal};
-ghost use Rattle.model.specs.Causes.{CausesPay};
-ghost use Rattle.model.specs.Example;
+ghost use Rattle.model.specs.state.Entry.Placed.{Failed};
+ghost use Rattle.model.specs.state.Entry.Reply.{Answers, Broker, LinkFault};
+ghost use Rattle.model.specs.history.Legal.{Counts, FaultsArePaid, HistoriesGoOn, Legal, RefusalsArePaid, is_fault, is_refusal};
+ghost use Rattle.model.specs.history.Causes.{CausesPay};
+ghost use Rattle.model.specs.examples.Example;
 
 /// A legal history goes on by a step whose events the link's counts pay for.
 pub fn histories_go_on()

@@ -1,7 +1,7 @@
 //! How a look ends.
 
-ghost use Rattle.model.specs.Bounds.{RepliesAreBounded};
-ghost use Rattle.model.specs.Look.{LooksEndOneWay, WalksHaveAnEnd};
+ghost use Rattle.model.specs.step.Bounds.{RepliesAreBounded};
+ghost use Rattle.model.specs.step.Look.{LooksEndOneWay, WalksHaveAnEnd};
 
 /// A look has one answer: over what was walked, the events, the reply and the consumer are those of
 /// one of its ends, and no two of them differ. Each walk has an end.

@@ -1,6 +1,6 @@
 //! What the model's words fix, each by a law of its own.
 
-ghost use Rattle.model.specs.Pinned.{
+ghost use Rattle.model.specs.examples.Pinned.{
   BreaksAreThese,
   BufferedRowsComeFirst,
   CommitsTellTheirCodes,
@@ -29,7 +29,7 @@ ghost use Rattle.model.specs.Pinned.{
   SeeksClear,
   SharesAreThoseGiven,
 };
-ghost use Rattle.model.specs.Sessions.{QuietSessionsBlameNobody, RefusedBatchesAreLarge};
+ghost use Rattle.model.specs.history.Sessions.{QuietSessionsBlameNobody, RefusedBatchesAreLarge};
 
 /// What single calls answer and leave.
 pub fn calls_are_pinned()

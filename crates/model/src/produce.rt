@@ -1,6 +1,6 @@
 //! What becomes of a row that a produce stored.
 
-ghost use Rattle.model.specs.Stored.{OthersRise, RowsAreThoseStored, StoredIsShown, StoredIsShownInRuns, StoredRowsAreNew};
+ghost use Rattle.model.specs.history.Stored.{OthersRise, RowsAreThoseStored, StoredIsShown, StoredIsShownInRuns, StoredRowsAreNew};
 
 /// A row that a produce answered as stored is the one that any later reply shows at its offset, in a
 /// history and in a run from any moment.

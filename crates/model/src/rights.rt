@@ -1,6 +1,6 @@
 //! Right answers that are easily refused.
 
-ghost use Rattle.model.specs.Rights.{
+ghost use Rattle.model.specs.examples.Rights.{
   DeleteCommitsInPart,
   EmptyCommit,
   LaterCodesMayBeTold,

@@ -1,6 +1,6 @@
 //! Which entries serve which calls.
 
-ghost use Rattle.model.specs.Served.{CallsAreAnsweredOnce, RoundsCountUp, ServingGoesOn};
+ghost use Rattle.model.specs.history.Served.{CallsAreAnsweredOnce, RoundsCountUp, ServingGoesOn};
 
 /// Entries that serve calls and then one more call serve all of these calls, each once.
 pub fn serving_goes_on()

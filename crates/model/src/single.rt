@@ -1,6 +1,6 @@
 //! What single answers tell.
 
-ghost use Rattle.model.specs.Single.{
+ghost use Rattle.model.specs.history.Single.{
   AssignsAreRefusedForCause,
   AssignsReadCommits,
   AssignsTheListed,

@@ -1,8 +1,8 @@
 //! What the entries of the code stand for, and which of them answer which requests.
 
-ghost use Rattle.model.specs.Noted.{StandingBegins, StandingGoesOn};
-ghost use Rattle.model.specs.Owed.{StepsAnswerTheLinksCodes, StepsPassOverNoOther, StepsShareWhatWasGiven, StepsShowByTheirTable, StepsTellTheirCodes};
-ghost use Rattle.model.specs.Handled.{AnsweredRoundsCountUp, AnsweringGoesOn, EnteredCallsAreAnsweredOnce, HouseEntriesAreFew, NotedGrow, SeenEntriesAreOwn, StayingLeavesEntries};
+ghost use Rattle.model.specs.history.Noted.{StandingBegins, StandingGoesOn};
+ghost use Rattle.model.specs.history.Owed.{StepsAnswerTheLinksCodes, StepsPassOverNoOther, StepsShareWhatWasGiven, StepsShowByTheirTable, StepsTellTheirCodes};
+ghost use Rattle.model.specs.history.Handled.{AnsweredRoundsCountUp, AnsweringGoesOn, EnteredCallsAreAnsweredOnce, HouseEntriesAreFew, NotedGrow, SeenEntriesAreOwn, StayingLeavesEntries};
 
 /// No entries stand for the beginning: over any log nobody is live.
 pub fn standing_begins()

@@ -1,6 +1,6 @@
 //! What a consumer's replies show of a partition.
 
-ghost use Rattle.model.specs.Stretch.{StretchesAreWhole, StretchesOfRunsAreWhole};
+ghost use Rattle.model.specs.history.Stretch.{StretchesAreWhole, StretchesOfRunsAreWhole};
 
 /// In every legal history, however it is cut, the rows of a partition that a stretch of a
 /// consumer's replies shows, in order, are those of the log from the position at its start up to

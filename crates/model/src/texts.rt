@@ -1,15 +1,15 @@
 //! Replies as they are written.
 
 ghost use Rattle.std.specs.Prelude.{codes, pos, negsuc, ◌≡◌, [], ◌∷◌, Some, None};
-ghost use Rattle.model.specs.World.Edge.{Start};
-ghost use Rattle.model.specs.Entry.Act.{Create, Delete, Subscription, Subscribe, Assignments, Seek, Fixed, Records};
-ghost use Rattle.model.specs.Entry.Question.{Brokers, Topics, OneTopic, Parts, OnePart, EndOffsets};
-ghost use Rattle.model.specs.Entry.Call.{Produce, Ask, Of};
-ghost use Rattle.model.specs.Entry.Placed.{Stored, Failed};
-ghost use Rattle.model.specs.Entry.Reply.{Done, Made, Names, Nodes, Offsets, Told, Edged, Listed, Answers, Unread, Refused, Broker, LinkFault};
-ghost use Rattle.model.specs.Readings.{reader, orders, other_orders, place_at, kafka_at, settings_of};
-ghost use Rattle.model.specs.ReadingReplies.{one_part, as_written};
-ghost use Rattle.model.specs.Texts.Response.{Empty, Body, Error};
+ghost use Rattle.model.specs.state.World.Edge.{Start};
+ghost use Rattle.model.specs.state.Entry.Act.{Create, Delete, Subscription, Subscribe, Assignments, Seek, Fixed, Records};
+ghost use Rattle.model.specs.state.Entry.Question.{Brokers, Topics, OneTopic, Parts, OnePart, EndOffsets};
+ghost use Rattle.model.specs.state.Entry.Call.{Produce, Ask, Of};
+ghost use Rattle.model.specs.state.Entry.Placed.{Stored, Failed};
+ghost use Rattle.model.specs.state.Entry.Reply.{Done, Made, Names, Nodes, Offsets, Told, Edged, Listed, Answers, Unread, Refused, Broker, LinkFault};
+ghost use Rattle.model.specs.examples.Readings.{reader, orders, other_orders, place_at, kafka_at, settings_of};
+ghost use Rattle.model.specs.examples.ReadingReplies.{one_part, as_written};
+ghost use Rattle.model.specs.texts.Texts.Response.{Empty, Body, Error};
 
 /// Each reply of the model stands for the body that the Confluent REST Proxy API v2 gives.
 pub fn replies_are_written_so()

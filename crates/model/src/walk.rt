@@ -1,10 +1,10 @@
 //! The walk of a look on small cases.
 
 ghost use Rattle.std.specs.Prelude.{true, false, ◌≡◌, [], ◌∷◌, Some, None};
-ghost use Rattle.model.specs.World.{once_each, with_positions};
-ghost use Rattle.model.specs.Look.{moved};
-ghost use Rattle.model.specs.Readings.{orders, other_orders, place_at};
-ghost use Rattle.model.specs.Rounds.{kafka_in, start_of_part, two_assigned, two_lots, walked_round};
+ghost use Rattle.model.specs.state.World.{once_each, with_positions};
+ghost use Rattle.model.specs.step.Look.{moved};
+ghost use Rattle.model.specs.examples.Readings.{orders, other_orders, place_at};
+ghost use Rattle.model.specs.examples.Rounds.{kafka_in, start_of_part, two_assigned, two_lots, walked_round};
 
 /// The walk goes once round from the rotation place. It stops before the row that would pass the
 /// bound, but the first row of a reply is taken; a row that doesn't read ends its partition alone.

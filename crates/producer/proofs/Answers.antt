@@ -4,16 +4,16 @@ use Rattle.std.specs.Prelude.{◌==◌, ℤ, pos, negsuc, nat_abs, All, Contains
 use Rattle.std.specs.List.{AllZip}
 use Rattle.std.proofs.lemmas.List.Elements.{All-cons, All-nil, All-head, All-tail}
 use Rattle.std.proofs.lemmas.Grind.{common_steps}
-use Rattle.model.specs.Log.{TopicPart, Row, Log, part_at}
-use Rattle.model.specs.Walk.{Item}
-use Rattle.model.specs.Entry.{Payload, is_zero}
-use Rattle.model.specs.Produced.{numbered as items_of, Places, Unknown}
+use Rattle.model.specs.state.Log.{TopicPart, Row, Log, part_at}
+use Rattle.model.specs.step.Walk.{Item}
+use Rattle.model.specs.state.Entry.{Payload, is_zero}
+use Rattle.model.specs.step.Produced.{numbered as items_of, Places, Unknown}
 use Rattle.broker_link.specs.Produced.{numbered, at_of, Takes, IsPlaced, MayBePlaced, taken_of}
 use Rattle.broker_link.specs.declared.link.NewRecord.{NewRecord}
 use Rattle.broker_link.specs.declared.link.PartRecords.{PartRecords}
 use Rattle.broker_link.specs.declared.link.PartPlaced.{PartPlaced}
 use Rattle.broker_link.proofs.Answered.{zip_weaker}
-use Rattle.producer.specs.Grouped.{new_of, put_in, grouped, cursor_of, code_at, next_at}
+use Rattle.producer.specs.Groups.{new_of, put_in, grouped, cursor_of, code_at, next_at}
 use Rattle.producer.proofs.Groups.{rows_in, rows_of, rows_grouped, Apart, apart_grouped, equal, same_is_equal}
 
 abbrev pub code_of : List PartPlaced → ℕ → ℤ

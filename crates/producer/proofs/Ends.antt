@@ -4,14 +4,14 @@ use Rattle.std.specs.Prelude.{ℤ, All, bytes_eq}
 use Rattle.std.specs.List.{list_any}
 use Rattle.std.proofs.lemmas.List.Elements.{All-cons, All-nil, All-head, All-tail, All-weaker}
 use Rattle.std.proofs.lemmas.Bool.Decides.{nat_tests}
-use Rattle.model.specs.Log.{Topic, Log, Keeps, shape_of, part_at}
-use Rattle.model.specs.Walk.{Item}
-use Rattle.model.specs.Entry.{Payload, Reply, IsLinks, is_zero}
-use Rattle.model.specs.Entry.Placed.{Stored}
-use Rattle.model.specs.Entry.Reply.{Answers, Refused}
-use Rattle.model.specs.Fixed.{SameCommits}
-use Rattle.model.specs.Produced.{Answered, Unknown, Places, NoneAdded, numbered, chosen, has_room}
-use Rattle.model.specs.Step.{HasTopic, parts_of, ProduceEnds}
+use Rattle.model.specs.state.Log.{Topic, Log, Keeps, shape_of, part_at}
+use Rattle.model.specs.step.Walk.{Item}
+use Rattle.model.specs.state.Entry.{Payload, Reply, IsLinks, is_zero}
+use Rattle.model.specs.state.Entry.Placed.{Stored}
+use Rattle.model.specs.state.Entry.Reply.{Answers, Refused}
+use Rattle.model.specs.step.Fixed.{SameCommits}
+use Rattle.model.specs.step.Produced.{Answered, Unknown, Places, NoneAdded, numbered, chosen, has_room}
+use Rattle.model.specs.step.Step.{HasTopic, parts_of, ProduceEnds}
 use Rattle.model.proofs.Stretches.{keeps_on}
 use Rattle.broker_link.specs.Causes.{Counts, ComesOf}
 use Rattle.broker_link.specs.declared.link.LinkNo.{LinkNo}
@@ -20,12 +20,13 @@ use Rattle.broker_link.proofs.Answered.{parts_counted}
 use Rattle.rest_calls.specs.Views.{batch_of, given_of, NamesPartition}
 use Rattle.rest_calls.specs.declared.call.Row.{Row}
 use Rattle.rest_calls.specs.declared.call.Batch.{Batch as Sent}
-use Rattle.producer.specs.Counted.{are_within, IsCount}
-use Rattle.producer.specs.Grouped.{placed_of}
+use Rattle.broker_link.specs.Count.{IsCount}
+use Rattle.producer.specs.Parts.{are_within}
+use Rattle.rest_replies.specs.Answer.{placed_of}
 use Rattle.producer.specs.Payloads.{number_in, payload_of}
 use Rattle.producer.specs.Plain.{TellsPlainly}
 use Rattle.broker_link.specs.Replies.{link_reply, IsStored}
-use Rattle.producer.specs.declared.told.Told.{Told}
+use Rattle.rest_replies.specs.declared.answer.Told.{Told}
 use Rattle.producer.proofs.Counting.{within, outside}
 use Rattle.producer.proofs.Places.{named_chosen}
 

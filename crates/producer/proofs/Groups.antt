@@ -5,11 +5,11 @@ use Rattle.std.proofs.lemmas.List.Elements.{All-cons, All-nil, All-head, All-tai
 use Rattle.std.proofs.lemmas.List.Kept.{AllPairs-cons}
 use Rattle.std.proofs.lemmas.Bool.Decides.{nat_tests, Decides-eqb}
 use Rattle.std.proofs.lemmas.Grind.{common_steps}
-use Rattle.model.specs.Entry.{Payload}
+use Rattle.model.specs.state.Entry.{Payload}
 use Rattle.broker_link.specs.Produced.{AreParts}
 use Rattle.broker_link.specs.declared.link.NewRecord.{NewRecord}
 use Rattle.broker_link.specs.declared.link.PartRecords.{PartRecords}
-use Rattle.producer.specs.Grouped.{new_of, put_in, grouped}
+use Rattle.producer.specs.Groups.{new_of, put_in, grouped}
 
 -- the rows of the first part of that number
 abbrev pub rows_in : ℕ → List PartRecords → List NewRecord

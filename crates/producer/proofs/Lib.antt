@@ -5,4 +5,4 @@ pub mod Groups
 pub mod Places
 pub mod Plain
 pub mod Telling
-pub mod Turning
+pub mod ReversedLemmas

@@ -5,13 +5,13 @@ use Rattle.std.specs.List.{position}
 use Rattle.std.proofs.lemmas.List.Quantifiers.{position-Some}
 use Rattle.std.proofs.lemmas.Bool.Decides.{nat_tests}
 use Rattle.std.proofs.lemmas.Grind.{common_steps}
-use Rattle.model.specs.Entry.{Payload}
+use Rattle.model.specs.state.Entry.{Payload}
 use Rattle.broker_link.specs.declared.link.PartRecords.{PartRecords}
 use Rattle.producer.specs.declared.told.Cursor.{Cursor}
 use Rattle.rest_calls.specs.declared.call.Row.{Row}
-use Rattle.producer.specs.Grouped.{new_of, put_in, code_at, next_at, bump, bumped}
-use Rattle.model.specs.Produced.{chosen}
-use Rattle.model.specs.Produced.{or_named, partition_of}
+use Rattle.producer.specs.Groups.{new_of, put_in, code_at, next_at, bump, bumped}
+use Rattle.model.specs.step.Produced.{chosen}
+use Rattle.model.specs.step.Produced.{or_named, partition_of}
 use Rattle.rest_calls.specs.Views.{given_of, bytes_of, NamesPartition}
 use Rattle.producer.specs.Payloads.{number_in, payload_of}
 use Rattle.std.specs.Prelude.{All, option_map}

@@ -3,18 +3,19 @@ use Rattle.std.proofs.Common.{◌≡◌, ℕ, Bool, true, false, cond, List, [],
 use Rattle.std.specs.Prelude.{◌==◌, ◌||◌, ℤ, nat_abs, All}
 use Rattle.std.specs.List.{AllZip, list_any}
 use Rattle.std.proofs.lemmas.List.Elements.{All-cons, All-nil, All-head, All-tail, All-weaker}
-use Rattle.model.specs.Log.{Log}
-use Rattle.model.specs.Entry.{Payload, is_zero}
-use Rattle.model.specs.Entry.Placed.{Stored}
-use Rattle.model.specs.Legal.{is_failed}
+use Rattle.model.specs.state.Log.{Log}
+use Rattle.model.specs.state.Entry.{Payload, is_zero}
+use Rattle.model.specs.state.Entry.Placed.{Stored}
+use Rattle.model.specs.history.Legal.{is_failed}
 use Rattle.gate_io.specs.Counts.{Rose}
 use Rattle.broker_link.specs.Causes.{Counts, CodeComes}
 use Rattle.broker_link.specs.Produced.{Takes, IsAsked, IsPlainly, first_code}
 use Rattle.broker_link.specs.declared.link.PartRecords.{PartRecords}
 use Rattle.broker_link.specs.declared.link.PartPlaced.{PartPlaced}
 use Rattle.producer.specs.declared.told.Cursor.{Cursor}
-use Rattle.producer.specs.declared.told.Told.{Told}
-use Rattle.producer.specs.Grouped.{put_in, grouped, cursor_of, code_at, next_at, bump, told_by, placed_of}
+use Rattle.rest_replies.specs.declared.answer.Told.{Told}
+use Rattle.producer.specs.Groups.{put_in, grouped, cursor_of, code_at, next_at, bump, told_by}
+use Rattle.rest_replies.specs.Answer.{placed_of}
 use Rattle.producer.specs.Plain.{IsLacking, TellsPlainly}
 use Rattle.producer.proofs.Groups.{equal, same_is_equal}
 use Rattle.producer.proofs.Answers.{code_of}

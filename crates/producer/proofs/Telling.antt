@@ -2,17 +2,18 @@
 use Rattle.std.proofs.Common.{◌≡◌, ℕ, ◌+◌, ◌^◌, ◌<◌, ◌≤◌, Bool, true, false, cond, List, [], ◌∷◌, ◌++◌, length, map, refl, ap, sym, ◌∙◌, arith}
 use Rattle.std.specs.Prelude.{◌==◌, ℤ, nat_abs}
 use Rattle.std.specs.List.{AllZip}
-use Rattle.model.specs.Log.{Log}
-use Rattle.model.specs.Walk.{Item}
-use Rattle.model.specs.Entry.{Payload, is_zero}
-use Rattle.model.specs.Entry.Placed.{Stored, Failed}
-use Rattle.model.specs.Produced.{numbered as items_of, answer_of, Answered}
+use Rattle.model.specs.state.Log.{Log}
+use Rattle.model.specs.step.Walk.{Item}
+use Rattle.model.specs.state.Entry.{Payload, is_zero}
+use Rattle.model.specs.state.Entry.Placed.{Stored, Failed}
+use Rattle.model.specs.step.Produced.{numbered as items_of, answer_of, Answered}
 use Rattle.broker_link.specs.Produced.{IsPlaced, IsBased}
 use Rattle.broker_link.specs.declared.link.PartRecords.{PartRecords}
 use Rattle.broker_link.specs.declared.link.PartPlaced.{PartPlaced}
 use Rattle.producer.specs.declared.told.Cursor.{Cursor}
-use Rattle.producer.specs.declared.told.Told.{Told}
-use Rattle.producer.specs.Grouped.{grouped, cursor_of, code_at, next_at, bump, told_by, placed_of}
+use Rattle.rest_replies.specs.declared.answer.Told.{Told}
+use Rattle.producer.specs.Groups.{grouped, cursor_of, code_at, next_at, bump, told_by}
+use Rattle.rest_replies.specs.Answer.{placed_of}
 use Rattle.producer.proofs.Groups.{equal}
 use Rattle.producer.proofs.Answers.{code_of, base_of, many, many_more, at_part, places, zero_code}
 

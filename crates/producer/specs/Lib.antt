@@ -1,5 +1,4 @@
-pub mod Counted
-pub mod Grouped
+pub mod Parts
+pub mod Groups
 pub mod Payloads
 pub mod Plain
-pub mod Replies

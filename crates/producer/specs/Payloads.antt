@@ -1,7 +1,7 @@
 -- The records of a request as the model has them.
 use Rattle.std.specs.Prelude.{ℕ, nat_abs, option_map}
-use Rattle.model.specs.Entry.{Payload}
-use Rattle.model.specs.Produced.{or_named}
+use Rattle.model.specs.state.Entry.{Payload}
+use Rattle.model.specs.step.Produced.{or_named}
 use Rattle.rest_calls.specs.Views.{bytes_of}
 use Rattle.rest_calls.specs.declared.call.Row.{Row}
 

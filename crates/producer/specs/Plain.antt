@@ -1,8 +1,8 @@
 -- What a plain link's refusals say of each record.
 use Rattle.std.specs.Prelude.{ℕ, ℤ, pos, ◌≡◌, ◌≢◌, List}
-use Rattle.model.specs.Log.{Log}
-use Rattle.model.specs.Fixed.{HasPart}
-use Rattle.producer.specs.declared.told.Told.{Told}
+use Rattle.model.specs.state.Log.{Log}
+use Rattle.model.specs.step.Fixed.{HasPart}
+use Rattle.rest_replies.specs.declared.answer.Told.{Told}
 
 -- with another code than 0 it is 3, and the log lacks the partition
 abbrev pub IsLacking : Log → List ℕ → ℕ → ℤ → Type 0

@@ -1,9 +1,9 @@
 ghost use Rattle.std.specs.Prelude.{◌≡◌, ◌==◌, ◌<◌, ◌^◌, ℕ, pos, nat_abs, Option, List, [], ◌∷◌, map, length, reverse, All, IfOk, OnOk, OnErr, IfSome};
 ghost use Rattle.std.specs.List.{position};
-ghost use Rattle.model.specs.Entry.{Payload as Item};
+ghost use Rattle.model.specs.state.Entry.{Payload as Item};
 ghost use Rattle.broker_link.specs.declared.link.PartRecords.{PartRecords as Part};
 ghost use Rattle.rest_calls.specs.Views.{bytes_of, NamesPartition};
-ghost use Rattle.producer.specs.Grouped.{grouped, new_of, put_in};
+ghost use Rattle.producer.specs.Groups.{grouped, new_of, put_in};
 ghost use Rattle.producer.specs.Payloads.{number_in, payload_of};
 
 use broker_link::{NewRecord, PartRecords};
@@ -82,14 +82,14 @@ fn put_record(
 }
 
 /// The records with the last one first.
-fn turned(alloc: Global, mut rows: Items<Row>) -> Result<Vec<Row>, AllocError>
-    ensures { IfOk result (λ turned. reverse turned.items ≡ rows) }
+fn reversed(alloc: Global, mut rows: Items<Row>) -> Result<Vec<Row>, AllocError>
+    ensures { IfOk result (λ reversed. reverse reversed.items ≡ rows) }
 {
-    let mut turned = Vec::with_capacity(alloc, rows.len())?;
+    let mut reversed = Vec::with_capacity(alloc, rows.len())?;
     while let Some(row) = rows.pop() {
-        turned.push(row)?;
+        reversed.push(row)?;
     }
-    Ok(turned)
+    Ok(reversed)
 }
 
 /// The records by partition, in request order within each. Keys and values are moved.
@@ -97,7 +97,7 @@ pub(crate) fn group(alloc: Global, rows: Items<Row>) -> Result<Vec<PartRecords>,
     requires named { All NamesPartition rows }
     ensures { IfOk result (λ parts. parts.items ≡ grouped [] (map payload_of rows)) }
 {
-    let mut left = turned(alloc, rows)?;
+    let mut left = reversed(alloc, rows)?;
     let mut parts = Vec::new(alloc);
     while let Some(row) = left.pop() {
         put_record(alloc, &mut parts, number_of(&row), new_record(row))?;

@@ -7,5 +7,4 @@ mod request;
 mod send;
 mod told;
 
-pub use request::{ProduceNo, produce};
-pub use told::Told;
+pub use request::produce;

@@ -1,34 +1,21 @@
 ghost use Rattle.std.specs.Prelude.{◌≡◌, ◌<◌, ◌≢◌, ◌^◌, ℕ, List, All, length, Some, Err, Result};
-ghost use Rattle.model.specs.Log.{IsLog};
-ghost use Rattle.model.specs.Fixed.{SameCommits};
-ghost use Rattle.model.specs.Step.{ProduceEnds};
+ghost use Rattle.model.specs.state.Log.{IsLog};
+ghost use Rattle.model.specs.step.Fixed.{SameCommits};
+ghost use Rattle.model.specs.step.Step.{ProduceEnds};
 ghost use Rattle.broker_link.specs.declared.link.LinkNo.TheVariants.{Want as LinkWant};
 ghost use Rattle.rest_calls.specs.Views.{batch_of, NamesPartition};
 ghost use Rattle.broker_link.specs.Replies.{IsCounted, IsGood, link_reply};
 ghost use Rattle.broker_link.specs.Stands.{Goes, IsOnceAtMost};
-ghost use Rattle.producer.specs.Replies.{refusal_reply, reply_of};
+ghost use Rattle.rest_replies.specs.Answer.{refusal_reply, reply_of};
+ghost use Rattle.rest_replies.specs.declared.answer.ProduceNo.TheVariants.{Link as LinkFailed};
 
-use crate::Told;
-use crate::parts::{are_within, count_parts};
-use crate::send::store;
-use broker_link::{Link, LinkNo};
+use crate::parts::are_within;
+use crate::send::send_parts;
+use broker_link::{Link, LinkNo, count_parts};
 use gate_io::Items;
 use rest_calls::Batch;
+use rest_replies::{ProduceNo, Told};
 use std::alloc::Global;
-
-/// Why a produce has no answer for its records.
-#[derive(Clone, Copy, Debug, PartialEq, Eq)]
-pub enum ProduceNo {
-    /// The broker doesn't know the topic.
-    NoTopic,
-    /// The topic lacks the partition of a record.
-    NoPartition,
-    /// The link failed, or refused the whole call. Never with the link's want of memory.
-    Link(LinkNo),
-    Want,
-}
-
-ghost use Rattle.producer.specs.declared.request.ProduceNo.TheVariants.{Link as LinkFailed};
 
 fn failed(e: LinkNo) -> ProduceNo
     ensures reply { refusal_reply result ≡ link_reply e }
@@ -72,7 +59,7 @@ pub fn produce<L: Link>(
     if !are_within(batch.rows.as_slice(), count) {
         return Err(ProduceNo::NoPartition);
     }
-    match store(alloc, now, link, topic, batch.rows) {
+    match send_parts(alloc, now, link, topic, batch.rows) {
         Ok(told) => Ok(told),
         Err(e) => Err(failed(e)),
     }

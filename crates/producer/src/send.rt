@@ -1,21 +1,21 @@
 ghost use Rattle.std.specs.Prelude.{◌≡◌, ◌<◌, ◌^◌, ℕ, List, map, length, true, All, IfOk, IfErr, OnErr};
 ghost use Rattle.std.specs.List.{list_any};
 ghost use Rattle.gate_io.specs.Counts.{Rose};
-ghost use Rattle.model.specs.Legal.{is_failed};
-ghost use Rattle.model.specs.Produced.{Answered, Unknown};
+ghost use Rattle.model.specs.history.Legal.{is_failed};
+ghost use Rattle.model.specs.step.Produced.{Answered, Unknown};
 ghost use Rattle.broker_link.specs.declared.link.LinkNo.TheVariants.{Want};
 ghost use Rattle.broker_link.specs.Stands.{Calls, IsOnceAtMost};
-ghost use Rattle.producer.specs.Grouped.{placed_of};
+ghost use Rattle.rest_replies.specs.Answer.{placed_of};
 ghost use Rattle.rest_calls.specs.Views.{NamesPartition};
 ghost use Rattle.producer.specs.Payloads.{number_in, payload_of};
 ghost use Rattle.producer.specs.Plain.{TellsPlainly};
 
-use crate::Told;
 use crate::by_part::{group, number_of};
 use crate::told::tell;
 use broker_link::{Link, LinkNo};
 use gate_io::Items;
 use rest_calls::Row;
+use rest_replies::Told;
 use std::alloc::{AllocError, Global};
 
 fn numbers_of(alloc: Global, rows: &Items<Row>) -> Result<Vec<u32>, AllocError>
@@ -29,7 +29,7 @@ fn numbers_of(alloc: Global, rows: &Items<Row>) -> Result<Vec<u32>, AllocError>
 }
 
 /// Stores the records of a request by one call of the link, and answers each in request order.
-pub(crate) fn store<L: Link>(
+pub(crate) fn send_parts<L: Link>(
     alloc: Global,
     now: u64,
     link: &mut L,

@@ -1,9 +1,10 @@
 ghost use Rattle.std.specs.Prelude.{◌≡◌, ◌==◌, ◌+◌, ◌-◌, ◌^◌, min, ℕ, nat_abs, Option, List, [], ◌∷◌, map, length, IfOk, slice_set};
 ghost use Rattle.std.specs.List.{position};
-ghost use Rattle.producer.specs.Grouped.{bump, bumped, code_at, cursor_of, next_at, told_by};
+ghost use Rattle.producer.specs.Groups.{bump, bumped, code_at, cursor_of, next_at, told_by};
 
 use broker_link::PartPlaced;
 use gate_io::Items;
+use rest_replies::Told;
 use std::alloc::{AllocError, Global};
 
 /// A partition that records are answered for, and the offset of the next one.
@@ -12,17 +13,6 @@ pub(crate) struct Cursor {
     pub number: u32,
     pub code: i16,
     pub next: u64,
-}
-
-/// One record's answer: the code 0 and where it stands, or the code of its partition.
-#[derive(Clone, Copy, Debug)]
-pub struct Told {
-    /// The partition that the request named, from 0.
-    pub partition: u32,
-    /// 0 if the record was stored, or the broker's code for its partition (Apache Kafka protocol guide, error codes).
-    pub code: i16,
-    /// Where the record stands in its partition, with code 0. It says nothing with another code.
-    pub offset: u64,
 }
 
 fn cursor_on(placed: &PartPlaced) -> Cursor

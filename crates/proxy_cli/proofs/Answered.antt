@@ -2,13 +2,13 @@
 use Rattle.std.proofs.Common.{◌≡◌, ℕ, List, [], ◌∷◌, ◌++◌, length, refl, ap, sym, subst, ◌∙◌, arith, append_assoc, append-nil, inl, inr}
 use Rattle.std.specs.Prelude.{⊤}
 use Rattle.gate_io.specs.Clocks.{Hand}
-use Rattle.model.specs.Entry.{Call, Entry}
-use Rattle.model.specs.Legal.{Run}
+use Rattle.model.specs.state.Entry.{Call, Entry}
+use Rattle.model.specs.history.Legal.{Run}
 use Rattle.model.proofs.Stretches.{histories_cut, stretch_law}
 use Rattle.model.proofs.Stored.{stored_is_shown}
 use Rattle.model.proofs.Added.{run_adds}
 use Rattle.broker_link.specs.Stands.{Stand}
-use Rattle.desk.specs.Stepping.{never}
+use Rattle.desk.specs.Step.{no_expiry}
 use Rattle.desk.specs.Runs.{State, Runs}
 use Rattle.desk.specs.declared.alone_desk.AloneDesk.{AloneDesk}
 use Rattle.desk.proofs.Looking.{runs_none, runs_on}
@@ -115,14 +115,14 @@ answering_more idle caller plain plain2 ticks ticks2 advertise s m t still ticki
 
 module _ {L C : Type 0} (stand : L → Stand) (ticks : C → Type 0) (hand : C → Hand) where
   pub exchanges_none : (desk : AloneDesk L) (clock : C) → ExchangesAll stand ticks hand desk clock desk clock [] []
-  exchanges_none desk clock = answering_none never 0 _ _ desk.shard.advertise _
+  exchanges_none desk clock = answering_none no_expiry 0 _ _ desk.shard.advertise _
 
   pub exchanges_more : (desk desk2 desk3 : AloneDesk L) (clock clock2 clock3 : C) → desk2.shard.advertise ≡ desk.shard.advertise
       → ((stand desk.shard.link).plain → (stand desk2.shard.link).plain) → (ticks clock → ticks clock2)
       → GoesOnBy (ExchangesAll stand ticks hand desk clock desk2 clock2) (Exchanges stand ticks hand desk2 clock2 desk3 clock3) (ExchangesAll stand ticks hand desk clock desk3 clock3)
   exchanges_more desk desk2 desk3 clock clock2 clock3 same still ticking qs rs q r pairs so_far one =
-      answering_more never 0 (stand desk.shard.link).plain (stand desk2.shard.link).plain (ticks clock) (ticks clock2) desk.shard.advertise (gateway_of stand desk (hand clock)) (gateway_of stand desk2 (hand clock2)) (gateway_of stand desk3 (hand clock3)) still ticking qs rs q r one.0 pairs so_far
-      (subst (λ (a : List ℕ). AnswersOne never 0 (stand desk2.shard.link).plain (ticks clock2) a (gateway_of stand desk2 (hand clock2)) (gateway_of stand desk3 (hand clock3)) q r one.0) same one.1)
+      answering_more no_expiry 0 (stand desk.shard.link).plain (stand desk2.shard.link).plain (ticks clock) (ticks clock2) desk.shard.advertise (gateway_of stand desk (hand clock)) (gateway_of stand desk2 (hand clock2)) (gateway_of stand desk3 (hand clock3)) still ticking qs rs q r one.0 pairs so_far
+      (subst (λ (a : List ℕ). AnswersOne no_expiry 0 (stand desk2.shard.link).plain (ticks clock2) a (gateway_of stand desk2 (hand clock2)) (gateway_of stand desk3 (hand clock3)) q r one.0) same one.1)
 
   pub exchanges_same : (desk desk2 desk3 : AloneDesk L) (clock clock2 clock3 : C) → desk3 ≡ desk2 → clock3 ≡ clock2 → (qs : List Request) (rs : List Reply)
       → ExchangesAll stand ticks hand desk clock desk2 clock2 qs rs → ExchangesAll stand ticks hand desk clock desk3 clock3 qs rs
@@ -139,6 +139,6 @@ answering_plainly idle caller P p ticks advertise s t qs rs x =
 
 -- the same from another name of the same gateway
 pub session_answers : (P : Type 0) → P → (ticks : Type 0) (a b : List ℕ) (s s2 t : Gateway) → a ≡ b → s ≡ s2 → (qs : List Request) (rs : List Reply)
-    → Answering never 0 P ticks a s t qs rs → Answering never 0 ⊤ ticks b s2 t qs rs
+    → Answering no_expiry 0 P ticks a s t qs rs → Answering no_expiry 0 ⊤ ticks b s2 t qs rs
 session_answers P p ticks a b s s2 t same still qs rs x =
-    subst (λ (n : List ℕ). Answering never 0 ⊤ ticks n s2 t qs rs) same (subst (λ (y : Gateway). Answering never 0 ⊤ ticks a y t qs rs) still (answering_plainly never 0 P p ticks a s t qs rs x))
+    subst (λ (n : List ℕ). Answering no_expiry 0 ⊤ ticks n s2 t qs rs) same (subst (λ (y : Gateway). Answering no_expiry 0 ⊤ ticks a y t qs rs) still (answering_plainly no_expiry 0 P p ticks a s t qs rs x))

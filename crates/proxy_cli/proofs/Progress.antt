@@ -19,7 +19,7 @@ use Rattle.proxy_cli.specs.declared.ended.EndWhy.{EndWhy}
 use Rattle.proxy_cli.specs.declared.ended.EndWhy.TheVariants.{Limit as AtTheLimit, Closed as AtAClose}
 use Rattle.proxy_cli.specs.Patience.{AskedBehind, ReadsBefore, ReadsBehind, ReadsTo, Took}
 use Rattle.proxy_cli.specs.Session.{Whole, Lost, Starved, CutOff, SplitsLast}
-use Rattle.proxy_cli.specs.Turn.{ServesOne, EndsAs, EndsHere, CutAt, CutsReply, CutsRefusal}
+use Rattle.proxy_cli.specs.Exchange.{ServesOne, EndsAs, EndsHere, CutAt, CutsReply, CutsRefusal}
 use Rattle.proxy_cli.proofs.Wants.{nothing_appended}
 
 -- what is said of requests and their replies

@@ -6,7 +6,7 @@ use Rattle.http_conn.specs.declared.request.ConnNo.{ConnNo}
 use Rattle.http_conn.specs.declared.request.ConnNo.TheVariants.{ReadFault, WriteFault, Want}
 use Rattle.rest_codes.specs.Response.{response_of}
 use Rattle.rest_codes.specs.declared.response.Reply.{Reply}
-use Rattle.proxy_cli.specs.Turn.{CutAt, Sends}
+use Rattle.proxy_cli.specs.Exchange.{CutAt, Sends}
 
 -- its bytes were written, or the first of them
 pub sends_bytes : (says : Reply → Type 0) (close : Bool) (before now : Option (List ℕ)) (said : Reply) (bytes : List ℕ) → says said → bytes ≡ response_of said close → (sent : Result Unit ConnNo)

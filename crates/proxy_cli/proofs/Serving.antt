@@ -9,7 +9,7 @@ use Rattle.http_conn.specs.Stream.{max_requests}
 use Rattle.http_conn.specs.Told.{Conn, LastRead}
 use Rattle.rest_codes.specs.declared.response.Reply.{Reply}
 use Rattle.proxy_cli.specs.Session.{Serves}
-use Rattle.proxy_cli.specs.Turn.{Turns}
+use Rattle.proxy_cli.specs.Exchange.{Turns}
 use Rattle.proxy_cli.proofs.Progress.{GoesOnBy, Progress, Said, progress_cut, progress_lost, progress_starved, same_held}
 
 pub serves_failed : {S : Type 0} (left asked : S → Option (List ℕ)) (first s s2 : S) (answers answers2 : Said) (one : Request → Reply → Type 0) (idle : Type 0) (before now next : Option (List ℕ)) (count : ℕ) (conn conn2 : Conn) (close : Bool)

@@ -10,7 +10,7 @@ use Rattle.http_conn.specs.Told.{Comes, Conn}
 use Rattle.rest_codes.specs.Response.{response_of}
 use Rattle.rest_codes.specs.declared.response.Reply.{Reply}
 use Rattle.proxy_cli.specs.Served.{OrWant}
-use Rattle.proxy_cli.specs.Turn.{CutAt, Sends, Turns}
+use Rattle.proxy_cli.specs.Exchange.{CutAt, Sends, Turns}
 
 module _ (answers : Request → Reply → Type 0) (idle : Type 0) (conn conn2 : Conn) (left left2 before now : Option (List ℕ)) (close : Bool) where
   -- the response to a request

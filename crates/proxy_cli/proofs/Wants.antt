@@ -2,7 +2,7 @@
 use Rattle.std.proofs.Common.{ℕ, List, refl, inl, inr, Option, None, Some, sym, subst, append-nil}
 use Rattle.std.specs.Prelude.{[]}
 use Rattle.std.specs.Io.KnownBytes.{Appends}
-use Rattle.model.specs.Entry.{Call, Entry}
+use Rattle.model.specs.state.Entry.{Call, Entry}
 use Rattle.http_conn.specs.declared.request.Request.{Request}
 use Rattle.rest_codes.specs.declared.response.Reply.{Reply}
 use Rattle.rest_codes.specs.declared.response.Reply.TheVariants.{Want}

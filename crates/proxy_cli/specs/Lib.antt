@@ -5,4 +5,4 @@ pub mod Program
 pub mod Served
 pub mod Session
 pub mod Status
-pub mod Turn
+pub mod Exchange

@@ -1,12 +1,12 @@
 -- Requests, the replies that they were given, and the entries of the history that these come from.
 use Rattle.std.specs.Prelude.{◌≡◌, ◌⊎◌, ◌||◌, ◌==◌, ℕ, ◌+◌, List, [], ◌∷◌, ◌++◌, All, Contains, Bool, false, sum_by}
 use Rattle.gate_io.specs.Clocks.{Hand}
-use Rattle.model.specs.Log.{IsLog, Log, TopicPart, Row, rows_in_all}
-use Rattle.model.specs.Walk.{Item}
-use Rattle.model.specs.World.{Key}
-use Rattle.model.specs.Entry.{Call, Entry, shown_to}
-use Rattle.model.specs.Stored.{HasStored, is_unknown, stored_by}
-use Rattle.model.specs.Stretch.{Cut, StretchLaw}
+use Rattle.model.specs.state.Log.{IsLog, Log, TopicPart, Row, rows_in_all}
+use Rattle.model.specs.step.Walk.{Item}
+use Rattle.model.specs.state.World.{Key}
+use Rattle.model.specs.state.Entry.{Call, Entry, shown_to}
+use Rattle.model.specs.history.Stored.{HasStored, is_unknown, stored_by}
+use Rattle.model.specs.history.Stretch.{Cut, StretchLaw}
 use Rattle.broker_link.specs.Stands.{Goes, Stand}
 use Rattle.rest_calls.specs.Reading.{Reading, Refusal}
 use Rattle.rest_calls.specs.Reading.Read.{Calls}
@@ -17,7 +17,7 @@ use Rattle.rest_codes.specs.declared.response.Reply.{Reply}
 use Rattle.rest_codes.specs.declared.response.Reply.TheVariants.{Want}
 use Rattle.http_conn.specs.declared.request.Request.{Request}
 use Rattle.http_conn.specs.Stream.{max_requests}
-use Rattle.desk.specs.Stepping.{never}
+use Rattle.desk.specs.Step.{no_expiry}
 use Rattle.desk.specs.Runs.{State, IsAnswered, Runs, named_after, state_of}
 use Rattle.desk.specs.declared.alone_desk.AloneDesk.{AloneDesk}
 
@@ -28,24 +28,24 @@ OrWant wanted r = (r ≡ wanted) ⊎ (r ≡ Want)
 -- the gateway with one caller: its consumers, log, clock and counts, and how many instances it has named
 pub record Gateway : Type 0 where
   pub state : State
-  pub unnamed : ℕ
+  pub names_given : ℕ
 
 -- the gateway of a desk whose link stands so, with the clock there
 abbrev pub gateway_of : {L : Type 0} → (L → Stand) → AloneDesk L → Hand → Gateway
-gateway_of stand desk hand = record { state = state_of stand desk.shard hand; unnamed = desk.unnamed }
+gateway_of stand desk hand = record { state = state_of stand desk.shard hand; names_given = desk.names_given }
 
 -- the call of a request was answered, and this is its reply, or want of memory in its place
 pub record IsCalled (idle caller : ℕ) (plain ticks : Type 0) (advertise : List ℕ) (s t : Gateway) (call : Call) (r : Reply) : Type 0 where
   pub said : Reply
-  pub answered : IsAnswered idle caller advertise plain ticks (entered caller s.unnamed call) s.state (response_in said) t.state
+  pub answered : IsAnswered idle caller advertise plain ticks (entered caller s.names_given call) s.state (response_in said) t.state
   pub replied : OrWant said r
-  pub named : t.unnamed ≡ named_after call s.unnamed
+  pub named : t.names_given ≡ named_after call s.names_given
 
 -- memory was wanting before the first turn of the call
 pub record IsStarved (s t : Gateway) (call : Call) (r : Reply) : Type 0 where
   pub wants : r ≡ Want
   pub same : t.state ≡ s.state
-  pub named : t.unnamed ≡ named_after call s.unnamed
+  pub named : t.names_given ≡ named_after call s.names_given
 
 -- One request was answered by these entries, from one state of the gateway to another: it was refused by its reading, met
 -- want of memory before the first turn of its call, or its call was answered.
@@ -102,12 +102,12 @@ DeskGoes stand ticks desk clock desk2 clock2 =
 -- one request was answered, from a desk and clock to a desk and clock, by caller 0, and nothing expires
 abbrev pub Exchanges : {L C : Type 0} → (L → Stand) → (C → Type 0) → (C → Hand) → AloneDesk L → C → AloneDesk L → C → Request → Reply → Type 0
 Exchanges stand ticks hand desk clock desk2 clock2 request reply =
-    (own : List Entry) × AnswersOne never 0 (stand desk.shard.link).plain (ticks clock) desk.shard.advertise (gateway_of stand desk (hand clock)) (gateway_of stand desk2 (hand clock2)) request reply own
+    (own : List Entry) × AnswersOne no_expiry 0 (stand desk.shard.link).plain (ticks clock) desk.shard.advertise (gateway_of stand desk (hand clock)) (gateway_of stand desk2 (hand clock2)) request reply own
 
 -- the same of all requests
 abbrev pub ExchangesAll : {L C : Type 0} → (L → Stand) → (C → Type 0) → (C → Hand) → AloneDesk L → C → AloneDesk L → C → List Request → List Reply → Type 0
 ExchangesAll stand ticks hand desk clock desk2 clock2 requests replies =
-    Answering never 0 (stand desk.shard.link).plain (ticks clock) desk.shard.advertise (gateway_of stand desk (hand clock)) (gateway_of stand desk2 (hand clock2)) requests replies
+    Answering no_expiry 0 (stand desk.shard.link).plain (ticks clock) desk.shard.advertise (gateway_of stand desk (hand clock)) (gateway_of stand desk2 (hand clock2)) requests replies
 
 -- the response to a request closes
 abbrev pub closes : ℕ → Request → Bool

@@ -11,8 +11,8 @@ use Rattle.http_conn.specs.declared.request.ConnNo.TheVariants.{ReadFault, Write
 use Rattle.http_conn.specs.declared.request.Request.{Request}
 use Rattle.http_conn.specs.Stream.{Ending, Stream, StreamSoFar, Begins, IsBad, is_closed}
 use Rattle.http_conn.specs.Stream.Ending.{BadPlace}
-use Rattle.model.specs.World.{nobody}
-use Rattle.desk.specs.Stepping.{never}
+use Rattle.model.specs.state.World.{nobody}
+use Rattle.desk.specs.Step.{no_expiry}
 use Rattle.proxy_cli.specs.Ended.{TellsEnd}
 use Rattle.proxy_cli.specs.declared.ended.Ended.{Ended}
 use Rattle.proxy_cli.specs.Patience.{ReadsBefore, ReadsBehind, Took}
@@ -112,12 +112,12 @@ Serves left asked old new answers held held2 (Err Want) = ServesFirst answers (l
 
 -- the gateway at which a session begins: nobody is live, over an empty log of the words' topics
 abbrev pub first_gateway : Command → Hand → Gateway
-first_gateway command hand = record { state = record { world = nobody; log = empty_log (plans_of command); hand = hand; counts = no_counts }; unnamed = 0 }
+first_gateway command hand = record { state = record { world = nobody; log = empty_log (plans_of command); hand = hand; counts = no_counts }; names_given = 0 }
 
 -- What is said of the requests of a command: they are answered by one run from its first gateway, which ends with the clock as it
 -- stands, over a link that never fails.
 abbrev pub IsRunOf : Command → (ticks : Type 0) → Hand → Hand → ((answers : List Request → List Reply → Type 0) → Type 0) → Type 0
-IsRunOf command ticks hand hand2 says = (t : Gateway) × (t.state.hand ≡ hand2) × says (Answering never 0 ⊤ ticks (advertise_of command) (first_gateway command hand) t)
+IsRunOf command ticks hand hand2 says = (t : Gateway) × (t.state.hand ≡ hand2) × says (Answering no_expiry 0 ⊤ ticks (advertise_of command) (first_gateway command hand) t)
 
 -- the same of a session, whose words ask for a command
 abbrev pub IsSession : List (List ℕ) → (ticks : Type 0) → Hand → Hand → ((answers : List Request → List Reply → Type 0) → Type 0) → Type 0

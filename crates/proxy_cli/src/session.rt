@@ -6,7 +6,7 @@ ghost use Rattle.http_conn.specs.Next.{NeedsMore};
 ghost use Rattle.proxy_cli.specs.Causes.{SinkFailed, SinkGoes};
 ghost use Rattle.proxy_cli.specs.Served.{DeskGoes, Exchanges, ExchangesAll, IsIdle, IsKnown, OrWant};
 ghost use Rattle.proxy_cli.specs.Session.{Serves};
-ghost use Rattle.proxy_cli.specs.Turn.{Sends, Turns};
+ghost use Rattle.proxy_cli.specs.Exchange.{Sends, Turns};
 
 use crate::answer::answer;
 use crate::ended::{EndWhy, Ended};
@@ -15,6 +15,7 @@ use desk::AloneDesk;
 use gate_io::{Clock, Sink, Source, Want};
 use http_conn::{ConnNo, Connection, Next, Request};
 use rest_codes::{Reply, response_bytes, want_response};
+use rest_routes::Routes;
 use std::alloc::Global;
 
 const MAX_REQUESTS: u32 = 100_000;
@@ -46,6 +47,7 @@ fn exchange<K: Sink, L: Link + Drop, C: Clock>(
     sink: &mut K,
     desk: &mut AloneDesk<L>,
     clock: &mut C,
+    routes: &Routes,
     request: &Request,
     close: bool,
 ) -> Result<(), ConnNo>
@@ -56,7 +58,7 @@ fn exchange<K: Sink, L: Link + Drop, C: Clock>(
     ensures counts { SinkGoes K.faults K.stalls sink.old sink.new }
     ensures goes { DeskGoes L.stand C.tells desk.old clock.old desk.new clock.new }
 {
-    let reply = answer(alloc, desk, clock, request);
+    let reply = answer(alloc, desk, clock, routes, request);
     send(alloc, connection, sink, &reply, close)
 }
 
@@ -75,6 +77,7 @@ fn serve_one<S: Source, K: Sink, L: Link + Drop, C: Clock>(
     sink: &mut K,
     desk: &mut AloneDesk<L>,
     clock: &mut C,
+    routes: &Routes,
     close: bool,
 ) -> Result<Option<EndWhy>, ConnNo>
     requires { connection.old.over ≡ false }
@@ -88,7 +91,9 @@ fn serve_one<S: Source, K: Sink, L: Link + Drop, C: Clock>(
     match connection.next(alloc, source) {
         Ok(Next::Ready(request)) => {
             let close = closes(&request, close);
-            match exchange(alloc, connection, sink, desk, clock, &request, close) {
+            match exchange(
+                alloc, connection, sink, desk, clock, routes, &request, close,
+            ) {
                 Ok(()) => Ok(None),
                 Err(e) => Err(e),
             }
@@ -122,6 +127,10 @@ pub fn serve_stream<S: Source, K: Sink, L: Link + Drop, C: Clock>(
         Ok(connection) => connection,
         Err(Want) => return Err(ConnNo::Want),
     };
+    let routes = match Routes::new(alloc) {
+        Ok(routes) => routes,
+        Err(Want) => return Err(ConnNo::Want),
+    };
     for count in 0..MAX_REQUESTS {
         if connection.is_over() {
             let requests = count;
@@ -129,7 +138,16 @@ pub fn serve_stream<S: Source, K: Sink, L: Link + Drop, C: Clock>(
             return Ok(Ended { requests, why });
         }
         let close = count + 1 == MAX_REQUESTS;
-        match serve_one(alloc, &mut connection, source, sink, desk, clock, close) {
+        match serve_one(
+            alloc,
+            &mut connection,
+            source,
+            sink,
+            desk,
+            clock,
+            &routes,
+            close,
+        ) {
             Ok(None) => {}
             Ok(Some(why)) => {
                 let requests = count;

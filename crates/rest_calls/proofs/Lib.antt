@@ -1,4 +1,5 @@
 pub mod Lists
 pub mod Records
 pub mod Readings
+pub mod Refusing
 pub mod Bodies

@@ -1,16 +1,18 @@
 -- From two readings of one request to their equality.
 use Rattle.std.proofs.Common.{◌≡◌, ◌∙◌, ℕ, List, [], ◌∷◌, sym, ap, refl, Option, Some, None, Result, Bool, true, false}
 use Rattle.serde_json.specs.Data.{Data}
-use Rattle.model.specs.Log.{TopicPart}
-use Rattle.model.specs.World.{Settings}
-use Rattle.model.specs.Entry.{Given}
+use Rattle.model.specs.state.Log.{TopicPart}
+use Rattle.model.specs.state.World.{Settings}
+use Rattle.model.specs.state.Entry.{Given}
 use Rattle.http_conn.specs.declared.request.Request.{Request}
 use Rattle.rest_calls.specs.Json.{IsJson}
 use Rattle.rest_calls.specs.Body.{produced_by}
 use Rattle.rest_calls.specs.Create.{created_by}
 use Rattle.rest_calls.specs.Assign.{assigned_by}
 use Rattle.rest_routes.specs.Media.{is_acceptable, is_supported}
-use Rattle.rest_routes.specs.Place.{Place, Topic, Group, Instance, place_of}
+use Rattle.rest_routes.specs.Place.{Sent, Nowhere, Lacks, At, sent_of}
+use Rattle.rest_routes.specs.declared.place.Place.{Place}
+use Rattle.rest_routes.specs.declared.place.Place.TheVariants.{Topic, Group, Instance}
 use Rattle.rest_routes.specs.declared.place.Ask.TheVariants.{Delete, Assign, Assignments, Records}
 use Rattle.rest_calls.specs.Views.{key_in}
 use Rattle.rest_calls.specs.Reading.{Read, Reading, ReadingAt, ReadingIn, Unless, ProducedAs, CreatedAs, AssignedAs, produce_read, create_read, assign_read}
@@ -44,11 +46,12 @@ one_unless : (is : Bool) (code : ℕ) (says : Read → Type 0) → ((a b : Read)
 one_unless true code says one a b x y = one a b x y
 one_unless false code says one a b x y = x ∙ sym y
 
-one_in : (place : Option Place) (request : Request) (a b : Read) → ReadingIn place request a → ReadingIn place request b → a ≡ b
-one_in None request a b x y = x ∙ sym y
-one_in (Some place) request a b x y =
+one_in : (sent : Sent) (request : Request) (a b : Read) → ReadingIn sent request a → ReadingIn sent request b → a ≡ b
+one_in Nowhere request a b x y = x ∙ sym y
+one_in (Lacks place) request a b x y = x ∙ sym y
+one_in (At place) request a b x y =
     one_unless (is_acceptable place request.accept) 406 (λ read. Unless (is_supported place request) 415 (ReadingAt place request) read)
     (one_unless (is_supported place request) 415 (ReadingAt place request) (one_at place request)) a b x y
 
 pub one_reading : (request : Request) (a b : Read) → Reading request a → Reading request b → a ≡ b
-one_reading request a b x y = one_in (place_of request) request a b x y
+one_reading request a b x y = one_in (sent_of request) request a b x y

@@ -2,7 +2,7 @@
 use Rattle.std.specs.Prelude.{ℕ, ◌&&◌, List, length, Option, Some, None, option_and_then, if◌then◌else◌, nat_le, codes}
 use Rattle.serde_json.specs.Data.{Data}
 use Rattle.serde_json.specs.Find.{get, as_array, as_str}
-use Rattle.model.specs.Log.{TopicPart}
+use Rattle.model.specs.state.Log.{TopicPart}
 use Rattle.rest_calls.specs.Json.{all_of}
 use Rattle.rest_calls.specs.Body.{partition_of}
 

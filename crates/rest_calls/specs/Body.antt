@@ -6,7 +6,7 @@ use Rattle.serde_json.specs.Find.{get, as_number, as_u64, as_array, as_null, as_
 use Rattle.rest_calls.specs.Json.{all_of}
 use Rattle.base64.specs.GeneralPurpose.{decode_of}
 use Rattle.base64.specs.Engines.{standard}
-use Rattle.model.specs.Entry.{Given}
+use Rattle.model.specs.state.Entry.{Given}
 
 -- the bytes of a text of base64, in the standard alphabet with padding
 abbrev pub decoded_of : List ℕ → Option (Option (List ℕ))

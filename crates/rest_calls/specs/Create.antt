@@ -5,11 +5,11 @@ use Rattle.std.specs.Char.{is_ascii_digit}
 use Rattle.std.specs.Str.Parse.{digits_value}
 use Rattle.serde_json.specs.Data.{Data, Num, unsigned, negative, float}
 use Rattle.serde_json.specs.Find.{get, as_number, as_bool, as_null, as_str, as_object}
-use Rattle.model.specs.Names.{is_word}
-use Rattle.model.specs.World.{Settings, Edge}
-use Rattle.model.specs.World.Edge.{Start, End}
+use Rattle.model.specs.state.Names.{is_word}
+use Rattle.model.specs.state.World.{Settings, Edge}
+use Rattle.model.specs.state.World.Edge.{Start, End}
 use Rattle.rest_calls.specs.declared.create.Bounds.{Bounds}
-use Rattle.model.specs.World.Format.{Binary}
+use Rattle.model.specs.state.World.Format.{Binary}
 
 -- a member of the body; null counts as absent
 abbrev pub unless_null : Option Data → Option Data

@@ -1,8 +1,8 @@
 -- The bytes by which a call finds its shard: a consumer's group and instance, or a topic.
 use Rattle.std.specs.Prelude.{ℕ, List, []}
-use Rattle.model.specs.World.{key_bytes}
-use Rattle.model.specs.Entry.{Call}
-use Rattle.model.specs.Entry.Call.{Produce, Ask, Of}
+use Rattle.model.specs.state.World.{key_bytes}
+use Rattle.model.specs.state.Entry.{Call}
+use Rattle.model.specs.state.Entry.Call.{Produce, Ask, Of}
 
 -- a consumer's key in bytes, the topic of a produce, and none for a question
 abbrev pub key_bytes_of : Call → List ℕ

@@ -7,3 +7,4 @@ pub mod Keys
 pub mod Reading
 pub mod Reads
 pub mod Responses
+pub mod Questions

@@ -1,17 +1,19 @@
 -- What a request asks for, or why it is refused: a produce of binary records, and the calls of one consumer (Confluent REST Proxy API v2).
 use Rattle.std.specs.Prelude.{◌≡◌, ℕ, ◌⊎◌, List, [], ◌∷◌, Option, Some, None, Result, Ok, Err, Bool, true, false}
 use Rattle.serde_json.specs.Data.{Data}
-use Rattle.model.specs.Log.{TopicPart}
-use Rattle.model.specs.World.{Key, Settings}
-use Rattle.model.specs.Entry.{Call, Given}
-use Rattle.model.specs.Entry.Call.{Produce, Of}
-use Rattle.model.specs.Entry.Act.{Create as Creates, Delete as Deletes, Assign as Assigns, Assignments as AsksAssignments, Records as AsksRecords}
+use Rattle.model.specs.state.Log.{TopicPart}
+use Rattle.model.specs.state.World.{Key, Settings}
+use Rattle.model.specs.state.Entry.{Call, Given}
+use Rattle.model.specs.state.Entry.Call.{Produce, Of}
+use Rattle.model.specs.state.Entry.Act.{Create as Creates, Delete as Deletes, Assign as Assigns, Assignments as AsksAssignments, Records as AsksRecords}
 use Rattle.http_conn.specs.declared.request.Request.{Request}
 use Rattle.rest_codes.specs.declared.response.Reply.{Reply}
-use Rattle.rest_codes.specs.declared.response.Reply.TheVariants.{Want}
+use Rattle.rest_codes.specs.declared.response.Reply.TheVariants.{Want, NoMethod}
 use Rattle.rest_codes.specs.Errors.{refusal_of}
 use Rattle.rest_calls.specs.Views.{key_in}
-use Rattle.rest_routes.specs.Place.{Place, Topic, Group, Instance, place_of}
+use Rattle.rest_routes.specs.Place.{Sent, Nowhere, Lacks, At, sent_of}
+use Rattle.rest_routes.specs.declared.place.Place.{Place}
+use Rattle.rest_routes.specs.declared.place.Place.TheVariants.{Topic, Group, Instance}
 use Rattle.rest_calls.specs.Json.{IsJson}
 use Rattle.rest_calls.specs.Body.{produced_by}
 use Rattle.rest_calls.specs.Create.{created_by, usual_settings}
@@ -21,10 +23,12 @@ use Rattle.rest_routes.specs.Query.{limits_of}
 use Rattle.rest_routes.specs.declared.query.Limits.{Limits}
 use Rattle.rest_routes.specs.declared.place.Ask.TheVariants.{Delete, Assign, Assignments, Records}
 
--- what a request reads as: a call, or a refusal with a code
+-- what a request reads as: a call, a refusal with a code, or the one of a path that hasn't the method, with the number of the path's
+-- first place
 pub data Read : Type 0 where
   Calls : Call → Read
   Refuses : ℕ → Read
+  LacksMethod : ℕ → Read
 
 -- ---- what bodies read as
 
@@ -81,18 +85,24 @@ abbrev pub Unless : Bool → ℕ → (Read → Type 0) → Read → Type 0
 Unless true code says read = says read
 Unless false code says read = read ≡ Refuses code
 
--- A request that has no place is refused with 404, one whose reply it doesn't accept with 406, and one whose body is of another type
--- with 415, in this order.
-abbrev pub ReadingIn : Option Place → Request → Read → Type 0
-ReadingIn None request read = read ≡ Refuses 404
-ReadingIn (Some place) request read =
+-- A request that is sent nowhere is refused with 404, one whose path hasn't the method with 405, one whose reply it doesn't accept
+-- with 406, and one whose body is of another type with 415, in this order.
+abbrev pub ReadingIn : Sent → Request → Read → Type 0
+ReadingIn Nowhere request read = read ≡ Refuses 404
+ReadingIn (Lacks place) request read = read ≡ LacksMethod place
+ReadingIn (At place) request read =
     Unless (is_acceptable place request.accept) 406 (Unless (is_supported place request) 415 (ReadingAt place request)) read
 
 -- what a request reads as
 abbrev pub Reading : Request → Read → Type 0
-Reading request read = ReadingIn (place_of request) request read
+Reading request read = ReadingIn (sent_of request) request read
+
+-- the reply that tells a refusal
+abbrev pub TellsRefusal : Read → Reply → Type 0
+TellsRefusal (Calls call) reply = ⊥
+TellsRefusal (Refuses code) reply = reply ≡ refusal_of code
+TellsRefusal (LacksMethod place) reply = reply ≡ NoMethod place
 
 -- a reply to a request that is no call: its refusal, or want of memory
 abbrev pub Refusal : Request → Reply → Type 0
-Refusal request reply =
-    (reply ≡ Want) ⊎ ((code : ℕ) × (reply ≡ refusal_of code) × Reading request (Refuses code))
+Refusal request reply = (reply ≡ Want) ⊎ ((read : Read) × TellsRefusal read reply × Reading request read)

@@ -4,8 +4,8 @@ use Rattle.rest_calls.specs.declared.unread.Unread.{Unread}
 use Rattle.rest_calls.specs.declared.unread.Unread.TheVariants.{Unreadable, Invalid, Want}
 use Rattle.broker_link.specs.Fetching.{at_of}
 use Rattle.broker_link.specs.declared.fetch.TopicPart.{TopicPart}
-use Rattle.model.specs.Log.{TopicPart as Part}
-use Rattle.model.specs.World.{Settings}
+use Rattle.model.specs.state.Log.{TopicPart as Part}
+use Rattle.model.specs.state.World.{Settings}
 use Rattle.rest_calls.specs.Reading.{Read, Calls, Refuses}
 use Rattle.rest_calls.specs.Views.{asked_of, name_in, settings_of, HasRecords, HasFewRecords, NamesPartitions}
 use Rattle.rest_calls.specs.declared.call.Call.{Call}

@@ -1,10 +1,10 @@
 -- What a call stands for in the sequential model of the gateway (Confluent REST Proxy API v2, produce).
 use Rattle.std.specs.Prelude.{◌≡◌, ◌<◌, ◌^◌, ◌+◌, ◌-◌, min, ℕ, pos, nat_abs, Bool, true, false, cond, codes, decimal, List, [], ◌∷◌, ◌++◌, length, map, All, Option, Some, None, option_map}
-use Rattle.model.specs.Entry as model
-use Rattle.model.specs.World as world
-use Rattle.model.specs.World.Format.{Binary}
-use Rattle.model.specs.Entry.Act.{Create as Creates, Delete as Deletes, Assign as Assigns, Assignments as AsksAssignments, Records as AsksRecords}
-use Rattle.model.specs.Entry.Call.{Produce as Asks, Of}
+use Rattle.model.specs.state.Entry as model
+use Rattle.model.specs.state.World as world
+use Rattle.model.specs.state.World.Format.{Binary}
+use Rattle.model.specs.state.Entry.Act.{Create as Creates, Delete as Deletes, Assign as Assigns, Assignments as AsksAssignments, Records as AsksRecords}
+use Rattle.model.specs.state.Entry.Call.{Produce as Asks, Of}
 use Rattle.broker_link.specs.Fetching.{at_of, edge_view}
 use Rattle.rest_calls.specs.declared.call.Payload.{Payload}
 use Rattle.rest_calls.specs.declared.call.Payload.TheVariants.{Null, Ready}

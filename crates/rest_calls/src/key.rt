@@ -1,5 +1,5 @@
 ghost use Rattle.std.specs.Prelude.{◌≡◌, false, IfOk};
-ghost use Rattle.model.specs.World.{key_bytes};
+ghost use Rattle.model.specs.state.World.{key_bytes};
 ghost use Rattle.rest_calls.specs.Views.{asked_of, is_unnamed, key_in, name_in};
 ghost use Rattle.rest_calls.specs.Keys.{key_bytes_of};
 

@@ -6,6 +6,7 @@ mod body;
 mod call;
 mod create;
 mod key;
+mod question;
 mod reading;
 mod sent;
 #[cfg(test)]
@@ -15,4 +16,5 @@ mod value;
 
 pub use call::{Batch, Call, Payload, Row, Settings};
 pub use key::key_of;
+pub use question::Question;
 pub use reading::{call_of, readings_are_one};

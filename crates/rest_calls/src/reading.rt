@@ -11,7 +11,7 @@ use crate::unread::Unread;
 use gate_io::Want;
 use http_conn::Request;
 use rest_codes::{Reply, refusal};
-use rest_routes::{is_acceptable, is_supported, place_of};
+use rest_routes::{Missing, Routes, is_acceptable, is_supported, place_of};
 use std::alloc::Global;
 
 /// The reply that refuses a request, or that of want of memory.
@@ -25,10 +25,11 @@ fn refused(alloc: Global, code: u32) -> Reply
 }
 
 /// Reads a whole request as a call. An error is the reply that refuses it, by the first of these
-/// that is so: 404 where it has no place, 406 where it doesn't accept the type of the reply, 415
-/// where its body is of another type or encoded, 422 where its body or its query doesn't read,
-/// 42204 where a new instance can't have the name or the settings that the body gives it.
-pub fn call_of(alloc: Global, request: &Request) -> Result<Call, Reply>
+/// that is so: 404 where its path is none of the gateway's or the place isn't built, 405 where the path
+/// hasn't the method, 406 where it doesn't accept the type of the reply, 415 where its body is of
+/// another type or encoded, 422 where its body or its query doesn't read, 42204 where a new instance
+/// can't have the name or the settings that the body gives it.
+pub fn call_of(alloc: Global, routes: &Routes, request: &Request) -> Result<Call, Reply>
     ensures reads { IfOk result (λ call. Reading request.now (Calls (asked_of call))) }
     ensures records { IfOk result HasRecords }
     ensures few { IfOk result HasFewRecords }
@@ -36,13 +37,16 @@ pub fn call_of(alloc: Global, request: &Request) -> Result<Call, Reply>
 
     ensures refused { IfErr result (Refusal request.now) }
 {
-    let Some(place) = place_of(request) else {
-        return Err(refused(alloc, 404));
+    let place = match place_of(alloc, routes, request) {
+        Ok(place) => place,
+        Err(Missing::NotFound) => return Err(refused(alloc, 404)),
+        Err(Missing::NoMethod(allow)) => return Err(Reply::NoMethod { allow }),
+        Err(Missing::Want) => return Err(Reply::Want),
     };
-    if !is_acceptable(place, request) {
+    if !is_acceptable(&place, request) {
         return Err(refused(alloc, 406));
     }
-    if !is_supported(place, request) {
+    if !is_supported(&place, request) {
         return Err(refused(alloc, 415));
     }
     match read_at(alloc, place, request) {

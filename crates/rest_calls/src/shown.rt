@@ -7,6 +7,7 @@ use gate_io::{Items, Text};
 use http::Method;
 use http_conn::Request;
 use rest_codes::Reply;
+use rest_routes::Routes;
 use std::alloc::{AllocError, Global};
 use std::process::Abort;
 use std::test::Fail;
@@ -176,6 +177,10 @@ fn shown(alloc: Global, read: &Result<Call, Reply>) -> Result<String, AllocError
             let refusal = format!(in alloc; "{code} {message}")?;
             out.push_str(refusal.as_str())?;
         }
+        Err(Reply::NoMethod { allow }) => {
+            let refusal = format!(in alloc; "405 {allow}")?;
+            out.push_str(refusal.as_str())?;
+        }
         Err(_) => out.push_str("another reply")?,
     }
     Ok(out)
@@ -190,7 +195,8 @@ pub(crate) fn told(
 ) -> Result<String, Fail> {
     let (method, path, media) = line;
     let request = request_of(alloc, method, path, query, media, body)?;
-    let read = call_of(alloc, &request);
+    let routes = Routes::new(alloc)?;
+    let read = call_of(alloc, &routes, &request);
     Ok(shown(alloc, &read)?)
 }
 

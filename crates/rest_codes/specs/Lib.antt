@@ -1,2 +1,3 @@
-pub mod Response
 pub mod Errors
+pub mod Methods
+pub mod Response

@@ -1,6 +1,7 @@
 -- The bytes of a response (RFC 9112, section 4): status line, fields, an empty line, the body.
 use Rattle.std.specs.Prelude.{ℕ, ◌/◌, Bool, true, false, List, [], ◌++◌, length, codes, decimal, if◌then◌else◌, ◌==◌, nat_lt}
 use Rattle.json.specs.Print.{quoted}
+use Rattle.rest_codes.specs.Methods.{allowing, no_method_text}
 use Rattle.rest_codes.specs.declared.response.Media.{Media}
 use Rattle.rest_codes.specs.declared.response.Media.TheVariants as media
 use Rattle.rest_codes.specs.declared.response.Reply.{Reply}
@@ -47,6 +48,11 @@ unfoldable pub with_body : ℕ → List ℕ → List ℕ → Bool → List ℕ
 with_body status media body close =
     head_of status media (length body) ++ (closing close ++ (codes "\r\n" ++ body))
 
+-- a response of 405 with a body, which lists the methods of the path that has this place
+unfoldable pub with_methods : ℕ → List ℕ → List ℕ → Bool → List ℕ
+with_methods place media body close =
+    head_of 405 media (length body) ++ (allowing place ++ (closing close ++ (codes "\r\n" ++ body)))
+
 -- the body of an error
 unfoldable pub error_text : ℕ → List ℕ → List ℕ
 error_text code message = codes "{\"error_code\":" ++ (decimal code ++ (codes ",\"message\":" ++ (quoted message ++ codes "}")))
@@ -64,4 +70,5 @@ abbrev pub response_of : Reply → Bool → List ℕ
 response_of reply.Empty close = codes "HTTP/1.1 204 No Content\r\n" ++ (closing close ++ codes "\r\n")
 response_of (reply.Body media text) close = with_body 200 (media_name media) text close
 response_of (reply.Error code text) close = with_body (status_of code) (media_name media.Plain) (error_text code text) close
+response_of (reply.NoMethod allow) close = with_methods allow (media_name media.Plain) no_method_text close
 response_of reply.Want close = with_body 503 (media_name media.Plain) want_text close

@@ -2,9 +2,10 @@
 #![tactic(auto)]
 
 mod errors;
+mod methods;
 mod response;
 #[cfg(test)]
 mod tests;
 
 pub use errors::{message, refusal};
-pub use response::{Media, Reply, response_bytes, want_response};
+pub use response::{Media, Reply, quoted_text, response_bytes, want_response};

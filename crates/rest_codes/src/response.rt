@@ -1,6 +1,7 @@
 ghost use Rattle.std.specs.Prelude.{◌≡◌, ◌<◌, ◌/◌, ◌++◌, IfOk, OnOk, codes, string_bytes, length, true, false};
 ghost use Rattle.json.specs.Print.{quoted};
 
+use crate::methods::methods;
 use gate_io::{Text, Want};
 use itoa::Buffer;
 use serde_json::Value;
@@ -33,17 +34,20 @@ impl Media {
     }
 }
 
-/// What a request is answered.
+/// What a request is answered. `NoMethod` is the 405 of a path that hasn't the method; `allow` is the
+/// number of one of the path's places in the table of the HTTP reference, 1 to 21.
 #[derive(Debug, Drop)]
 pub enum Reply {
     Empty,
     Body { media: Media, text: Text },
     Error { code: u32, text: Text },
+    NoMethod { allow: u8 },
     Want,
 }
 
-ghost use Rattle.rest_codes.specs.Response.{reason_of, closing, head_of, with_body, error_text, status_of, response_of, media_name, want_text};
-ghost use Rattle.rest_codes.specs.declared.response.Reply.TheVariants.{Want as WantReply, Empty as EmptyReply};
+ghost use Rattle.rest_codes.specs.Response.{reason_of, closing, head_of, with_body, with_methods, error_text, status_of, response_of, media_name, want_text};
+ghost use Rattle.rest_codes.specs.Methods.{methods_of, allowing, no_method_text};
+ghost use Rattle.rest_codes.specs.declared.response.Reply.TheVariants.{Want as WantReply, Empty as EmptyReply, NoMethod as NoMethodReply};
 ghost use Rattle.rest_codes.specs.declared.response.Media.TheVariants.{Plain as PlainMedia};
 
 #[tactic(auto, unfolding(crate::specs::Response::reason_of))]
@@ -121,7 +125,8 @@ fn empty(alloc: Global, close: bool) -> Result<Vec<u8>, AllocError>
     Ok(out)
 }
 
-fn quoted_text(alloc: Global, text: &str) -> Result<String, AllocError>
+/// The text as a JSON string, in quotes and with escapes (RFC 8259, section 7).
+pub fn quoted_text(alloc: Global, text: &str) -> Result<String, AllocError>
     ensures { IfOk result (λ s. string_bytes s ≡ quoted text.now) }
 {
     let value = Value::try_from_str(alloc, text)?;
@@ -156,6 +161,48 @@ fn error(alloc: Global, code: u32, message: &str, close: bool) -> Result<Vec<u8>
     )
 }
 
+/// Appends the methods of a path.
+fn put_allow(out: &mut Vec<u8>, allow: u8) -> Result<(), AllocError>
+    ensures { OnOk result (out.new.items ≡ out.old.items ++ allowing allow) }
+{
+    out.extend_from_slice(b"Allow: ")?;
+    out.extend_from_slice(methods(allow).as_bytes())?;
+    out.extend_from_slice(b"\r\n")?;
+    Ok(())
+}
+
+/// A response of 405 with a body, which lists the methods of the path.
+#[tactic(auto, unfolding(crate::specs::Response::with_methods))]
+fn listing(
+    alloc: Global,
+    allow: u8,
+    media: &str,
+    body: &str,
+    close: bool,
+) -> Result<Vec<u8>, AllocError>
+    ensures { IfOk result (λ out. out.items ≡ with_methods allow media.now body.now close) }
+{
+    let mut out = Vec::with_capacity(alloc, HEAD_ROOM + body.len())?;
+    put_head(&mut out, 405, media, body.len())?;
+    put_allow(&mut out, allow)?;
+    out.extend_from_slice(closing_field(close).as_bytes())?;
+    out.extend_from_slice(b"\r\n")?;
+    out.extend_from_slice(body.as_bytes())?;
+    Ok(out)
+}
+
+fn no_method_body() -> &'static str
+    ensures { result.now ≡ no_method_text }
+{
+    "{\"error_code\":405,\"message\":\"Method not allowed.\"}"
+}
+
+fn no_method(alloc: Global, allow: u8, close: bool) -> Result<Vec<u8>, AllocError>
+    ensures { IfOk result (λ out. out.items ≡ response_of (NoMethodReply allow) close) }
+{
+    listing(alloc, allow, Media::Plain.name(), no_method_body(), close)
+}
+
 fn bytes_of(alloc: Global, reply: &Reply, close: bool) -> Result<Vec<u8>, AllocError>
     ensures { IfOk result (λ out. out.items ≡ response_of reply.now close) }
 {
@@ -163,6 +210,7 @@ fn bytes_of(alloc: Global, reply: &Reply, close: bool) -> Result<Vec<u8>, AllocE
         Reply::Empty => empty(alloc, close),
         Reply::Body { media, text } => framed(alloc, 200, media.name(), text.as_str(), close),
         Reply::Error { code, text } => error(alloc, *code, text.as_str(), close),
+        Reply::NoMethod { allow } => no_method(alloc, *allow, close),
         Reply::Want => Vec::from_slice(alloc, want_response(close)),
     }
 }

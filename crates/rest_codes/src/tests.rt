@@ -12,6 +12,14 @@ const WANT_CLOSING: &[u8] =
 const SHOWN: &[u8] =
     b"HTTP/1.1 200 OK\r\nContent-Type: application/vnd.kafka.json.v2+json\r\nContent-Length: 2\r\nConnection: close\r\n\r\n[]";
 
+/// The message of a path without the method, with the methods of its places: RFC 9110, section
+/// 10.2.1, and the routes of the REST proxy.
+const TOPIC_LACKS: &[u8] =
+    b"HTTP/1.1 405 Method Not Allowed\r\nContent-Type: application/vnd.kafka.v2+json\r\nContent-Length: 50\r\nAllow: GET, POST\r\n\r\n{\"error_code\":405,\"message\":\"Method not allowed.\"}";
+
+const SUBSCRIPTION_LACKS: &[u8] =
+    b"HTTP/1.1 405 Method Not Allowed\r\nContent-Type: application/vnd.kafka.v2+json\r\nContent-Length: 50\r\nAllow: DELETE, GET, POST\r\nConnection: close\r\n\r\n{\"error_code\":405,\"message\":\"Method not allowed.\"}";
+
 const NO_CONTENT: &[u8] = b"HTTP/1.1 204 No Content\r\n\r\n";
 
 #[test]
@@ -37,6 +45,15 @@ fn a_body_keeps_its_media_type_and_closes(rt: HostRuntime) -> Result<(), Fail> {
 fn an_empty_reply_has_no_fields(rt: HostRuntime) -> Result<(), Fail> {
     let bytes = response_bytes(rt.alloc(), &Reply::Empty, false)?;
     assert_eq!(rt; bytes.as_slice(), NO_CONTENT);
+    Ok(())
+}
+
+#[test]
+fn a_path_without_the_method_lists_its_methods(rt: HostRuntime) -> Result<(), Fail> {
+    let bytes = response_bytes(rt.alloc(), &Reply::NoMethod { allow: 3 }, false)?;
+    assert_eq!(rt; bytes.as_slice(), TOPIC_LACKS);
+    let bytes = response_bytes(rt.alloc(), &Reply::NoMethod { allow: 13 }, true)?;
+    assert_eq!(rt; bytes.as_slice(), SUBSCRIPTION_LACKS);
     Ok(())
 }
 

@@ -1,3 +1,3 @@
+pub mod Decoded
 pub mod Numbers
 pub mod Parts
-pub mod Pieces

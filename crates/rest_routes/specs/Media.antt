@@ -3,7 +3,8 @@ use Rattle.std.specs.Prelude.{ℕ, List, [], ◌∷◌, Bool, true, false, ◌||
 use Rattle.std.specs.List.{before_first, list_any, slice_split}
 use Rattle.http_head.specs.Member.{is_comma, is_word}
 use Rattle.http_conn.specs.declared.request.Request.{Request}
-use Rattle.rest_routes.specs.Place.{Place, Topic, Group, Instance}
+use Rattle.rest_routes.specs.declared.place.Place.{Place}
+use Rattle.rest_routes.specs.declared.place.Place.TheVariants.{Topic, Group, Instance}
 use Rattle.rest_routes.specs.declared.place.Ask.TheVariants.{Assign, Records}
 
 -- what stands before the parameters

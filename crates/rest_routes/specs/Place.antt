@@ -1,79 +1,99 @@
--- To what a request is sent (Confluent REST Proxy API v2: POST /topics/{topic}; POST /consumers/{group}; DELETE /consumers/{group}/instances/{instance}, and its assignments and records).
-use Rattle.std.specs.Prelude.{ℕ, Bool, ◌&&◌, ◌==◌, List, length, take, drop, Option, Some, None, option_map, option_and_then, if◌then◌else◌, nat_lt, codes}
-use Rattle.std.specs.List.{position_or_len, before_first, after_first}
-use Rattle.std.specs.Str.{bytes_eq}
+-- To what a request is sent (Confluent REST Proxy API v2; RFC 9110, section 15.5.6).
+use Rattle.std.specs.Prelude.{◌≡◌, ℕ, Bool, true, false, List, [], Option, Some, None, ⊤}
 use Rattle.http_conn.specs.declared.request.Request.{Request}
-use Rattle.rest_routes.specs.Path.{is_topic_name, topic_of}
+use Rattle.rest_routes.specs.Routes.{route_of}
+use Rattle.rest_routes.specs.Methods.{verb_of, has_method, first_place}
+use Rattle.rest_routes.specs.Parameter.{first_parameter, second_parameter, name_of, instance_name_of, number_of}
+use Rattle.rest_routes.specs.declared.route.Route.{Route}
+use Rattle.rest_routes.specs.declared.route.Route.TheVariants as route
+use Rattle.rest_routes.specs.declared.route.Verb.{Verb}
+use Rattle.rest_routes.specs.declared.route.Verb.TheVariants as verb
 use Rattle.rest_routes.specs.declared.place.Ask.{Ask}
-use Rattle.rest_routes.specs.declared.place.Ask.TheVariants.{Delete, Assign, Assignments, Records}
-use Rattle.rest_routes.specs.declared.place.Place.{Place as Sent}
-use Rattle.rest_routes.specs.declared.place.Place.TheVariants as sent
+use Rattle.rest_routes.specs.declared.place.Ask.TheVariants as ask
+use Rattle.rest_routes.specs.declared.place.Names.{Names}
+use Rattle.rest_routes.specs.declared.place.Place.{Place}
+use Rattle.rest_routes.specs.declared.place.Place.TheVariants.{Topic, Group, Instance}
+use Rattle.rest_routes.specs.declared.place.Missing.{Missing}
+use Rattle.rest_routes.specs.declared.place.Missing.TheVariants.{NotFound, NoMethod, Want}
 
--- a topic, a group, or an instance of a group and what is asked of it
-pub data Place : Type 0 where
-  Topic Group : List ℕ → Place
-  Instance : (group name : List ℕ) → Ask → Place
+-- To what a request is sent: nothing that the gateway has; a path that hasn't the method, with the number of the path's first place;
+-- or a place.
+pub data Sent : Type 0 where
+  Nowhere : Sent
+  Lacks : ℕ → Sent
+  At : Place → Sent
 
--- the place that is seen so
-abbrev pub place_view : Sent → Place
-place_view (sent.Topic topic) = Topic topic.now
-place_view (sent.Group group) = Group group.now
-place_view (sent.Instance group instance ask) = Instance group.now instance.now ask
+-- one name
+abbrev pub alone : Option (List ℕ) → Option Names
+alone None = None
+alone (Some name) = Some (record { first = name; second = [] })
 
--- a slash
-abbrev pub is_slash : ℕ → Bool
-is_slash b = b == 47
+-- two names, where both read
+abbrev pub both : Option (List ℕ) → Option (List ℕ) → Option Names
+both (Some first) (Some second) = Some (record { first = first; second = second })
+both _ _ = None
 
--- what stands before the first slash
-abbrev pub first_part : List ℕ → List ℕ
-first_part path = before_first is_slash path
+-- the names that a path gives: a topic, a topic's partition, a group, or an instance of a group
+abbrev pub names_at : Route → List ℕ → Option Names
+names_at route.Brokers path = Some (record { first = []; second = [] })
+names_at route.Topics path = Some (record { first = []; second = [] })
+names_at route.Topic path = alone (name_of (first_parameter path))
+names_at route.Partitions path = alone (name_of (first_parameter path))
+names_at route.Partition path = both (name_of (first_parameter path)) (number_of (second_parameter path))
+names_at route.EndOffsets path = both (name_of (first_parameter path)) (number_of (second_parameter path))
+names_at route.Group path = alone (instance_name_of (first_parameter path))
+names_at r path = both (instance_name_of (first_parameter path)) (instance_name_of (second_parameter path))
 
--- what follows the first slash, if there is one
-abbrev pub behind_part : List ℕ → Option (List ℕ)
-behind_part path =
-    if nat_lt (position_or_len is_slash path) (length path) then Some (after_first is_slash path) else None
+-- what is asked of an instance, where that is built
+abbrev pub ask_at : Route → Verb → Option Ask
+ask_at route.Instance verb.Delete = Some ask.Delete
+ask_at route.Assignments verb.Post = Some ask.Assign
+ask_at route.Assignments verb.Get = Some ask.Assignments
+ask_at route.Records verb.Get = Some ask.Records
+ask_at r v = None
 
--- what follows `/consumers/`
-abbrev pub after_consumers : List ℕ → Option (List ℕ)
-after_consumers path = if bytes_eq (take 11 path) (codes "/consumers/") then Some (drop 11 path) else None
+-- the instance of that name, if this is asked of it
+abbrev pub instance_at : Names → Option Ask → Option Place
+instance_at names None = None
+instance_at names (Some ask) = Some (Instance names.first names.second ask)
 
--- what follows `instances/`
-abbrev pub after_instances : List ℕ → Option (List ℕ)
-after_instances path = if bytes_eq (take 10 path) (codes "instances/") then Some (drop 10 path) else None
+-- the place that a path has for a method, where it is built
+abbrev pub place_at : Route → Verb → Names → Option Place
+place_at route.Topic verb.Post names = Some (Topic names.first)
+place_at route.Group verb.Post names = Some (Group names.first)
+place_at r v names = instance_at names (ask_at r v)
 
--- What is asked of an instance, by the method and what follows the slash behind the name: DELETE of the instance itself, POST and GET of its assignments, GET of its records.
-unfoldable pub ask_of : (method : List ℕ) → Option (List ℕ) → Option Ask
-ask_of method None = if bytes_eq method (codes "DELETE") then Some Delete else None
-ask_of method (Some end) =
-    if bytes_eq end (codes "assignments") && bytes_eq method (codes "POST") then Some Assign else
-    if bytes_eq end (codes "assignments") && bytes_eq method (codes "GET") then Some Assignments else
-    if bytes_eq end (codes "records") && bytes_eq method (codes "GET") then Some Records else None
+-- a place that is built, or nothing
+abbrev pub built : Option Place → Sent
+built None = Nowhere
+built (Some place) = At place
 
--- the instance that the rest of a path names
-unfoldable pub instance_at : (method group rest : List ℕ) → Option Place
-instance_at method group rest =
-    if is_topic_name (first_part rest)
-    then option_map (Instance group (first_part rest)) (ask_of method (behind_part rest)) else None
+-- a path without the method says which it has
+abbrev pub sent_by : Route → Names → Verb → Bool → Sent
+sent_by r names v false = Lacks (first_place r)
+sent_by r names v true = built (place_at r v names)
 
--- a POST is sent to the group itself, and all else to one of its instances
-unfoldable pub place_behind : (method group : List ℕ) → Option (List ℕ) → Option Place
-place_behind method group None = if bytes_eq method (codes "POST") then Some (Group group) else None
-place_behind method group (Some rest) = option_and_then (instance_at method group) (after_instances rest)
+-- a path has no other method than the three
+abbrev pub sent_with : Route → Names → Option Verb → Sent
+sent_with r names None = Lacks (first_place r)
+sent_with r names (Some v) = sent_by r names v (has_method r v)
 
--- the group that a path names, and the place behind it
-abbrev pub group_at : (method path : List ℕ) → Option Place
-group_at method path =
-    if is_topic_name (first_part path) then place_behind method (first_part path) (behind_part path) else None
+-- a path with a parameter that doesn't read is none of the gateway's
+abbrev pub sent_to : Route → Option Verb → Option Names → Sent
+sent_to r v None = Nowhere
+sent_to r v (Some names) = sent_with r names v
 
--- the place of a consumer that a path names
-unfoldable pub consumer_at : (method path : List ℕ) → Option Place
-consumer_at method path = option_and_then (group_at method) (after_consumers path)
+-- to what a request of this method is sent, by its path
+abbrev pub sent_at : Option Verb → Option Route → List ℕ → Sent
+sent_at v None path = Nowhere
+sent_at v (Some r) path = sent_to r v (names_at r path)
 
--- the topic of a produce, else the place of a consumer
-abbrev pub topic_or : Option (List ℕ) → Option Place → Option Place
-topic_or (Some topic) other = Some (Topic topic)
-topic_or None other = other
+-- to what a request is sent
+abbrev pub sent_of : Request → Sent
+sent_of request = sent_at (verb_of request.method) (route_of request.path) request.path
 
--- the place of a request, where it has one
-unfoldable pub place_of : Request → Option Place
-place_of request = topic_or (topic_of request) (consumer_at request.method request.path)
+-- why it has no place
+abbrev pub IsMissed : Sent → Missing → Type 0
+IsMissed sent NotFound = sent ≡ Nowhere
+IsMissed sent (NoMethod place) = sent ≡ Lacks place
+IsMissed sent Want = ⊤

@@ -1,43 +1,21 @@
--- The fields of a query (URL Standard, application/x-www-form-urlencoded, without its escapes), and the two that a read of records has.
-use Rattle.std.specs.Prelude.{ℕ, Bool, ◌&&◌, ◌==◌, List, [], ◌∷◌, length, Option, Some, None, option_map, if◌then◌else◌, nat_lt, nat_le, codes}
-use Rattle.std.specs.List.{list_all, slice_split, position_or_len, before_first, after_first}
+-- The two fields of a query that a read of records has (URL Standard, application/x-www-form-urlencoded).
+use Rattle.std.specs.Prelude.{ℕ, Bool, ◌&&◌, List, [], ◌∷◌, length, Option, Some, None, option_map, if◌then◌else◌, nat_le, codes}
+use Rattle.std.specs.List.{list_all}
 use Rattle.std.specs.Str.{bytes_eq}
+use Rattle.std.specs.Str.Lossy.{utf8_lossy}
 use Rattle.std.specs.Str.Parse.{digits_value}
 use Rattle.std.specs.Char.{is_ascii_digit}
+use Rattle.form_urlencoded.specs.Form.{raw_pairs, decode}
 use Rattle.rest_routes.specs.declared.query.Limits.{Limits}
 
--- an ampersand
-abbrev pub is_joint : ℕ → Bool
-is_joint b = b == 38
+-- what a name or a value stands for: `+` is a space, escapes are decoded, and what is no UTF-8 is replaced
+abbrev pub text_of : List ℕ → List ℕ
+text_of bytes = utf8_lossy (decode bytes)
 
--- the pieces of a query between its `&`
-abbrev pub pieces_of : List ℕ → List (List ℕ)
-pieces_of query = slice_split is_joint query
-
--- a query's first piece and what follows the `&` behind it, where it has one
-abbrev pub cut_of : List ℕ → Option (List ℕ × List ℕ)
-cut_of query =
-    if nat_lt (position_or_len is_joint query) (length query)
-    then Some (before_first is_joint query, after_first is_joint query) else None
-
--- an equals sign
-abbrev pub is_equals : ℕ → Bool
-is_equals b = b == 61
-
--- A field's name stands before its first `=`, and its value behind that. A field without one is a name with an empty value.
-unfoldable pub value_in : (name field : List ℕ) → Option (List ℕ)
-value_in name field =
-    if bytes_eq (before_first is_equals field) name then Some (after_first is_equals field) else None
-
--- the first that is there
-abbrev pub or_else : Option (List ℕ) → Option (List ℕ) → Option (List ℕ)
-or_else (Some value) other = Some value
-or_else None other = other
-
--- the value of the first field of that name
-abbrev pub first_value : (name : List ℕ) → List (List ℕ) → Option (List ℕ)
+-- the value of the first of these fields that has the name, as it was sent
+abbrev pub first_value : (name : List ℕ) → List (List ℕ × List ℕ) → Option (List ℕ)
 first_value name [] = None
-first_value name (field ∷ fields) = or_else (value_in name field) (first_value name fields)
+first_value name (field ∷ fields) = if bytes_eq (text_of field.0) name then Some field.1 else first_value name fields
 
 -- 1 to 18 decimal digits, and the number that they write
 unfoldable pub amount_of : List ℕ → Option ℕ
@@ -48,11 +26,11 @@ amount_of digits =
 -- a number, where a value is given
 abbrev pub amount_in : Option (List ℕ) → Option (Option ℕ)
 amount_in None = Some None
-amount_in (Some digits) = option_map (λ (n : ℕ). Some n) (amount_of digits)
+amount_in (Some value) = option_map (λ (n : ℕ). Some n) (amount_of (text_of value))
 
 -- the number that a query gives under that name, or none; nothing where what it gives is no number
 unfoldable pub given_in : (name query : List ℕ) → Option (Option ℕ)
-given_in name query = amount_in (first_value name (pieces_of query))
+given_in name query = amount_in (first_value name (raw_pairs query))
 
 -- both limits, where both read
 abbrev pub both_limits : Option (Option ℕ) → Option (Option ℕ) → Option Limits

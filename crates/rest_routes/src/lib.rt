@@ -3,14 +3,19 @@
 
 mod digits;
 mod media;
+mod parameter;
 mod path;
 mod place;
 mod query;
+mod route;
+mod routes;
 #[cfg(test)]
 mod sample;
 
 pub use digits::{are_digits, number_in};
 pub use media::{is_acceptable, is_supported};
 pub use path::is_topic_name;
-pub use place::{Ask, Place, place_of};
+pub use place::{Ask, Missing, Place, place_of};
 pub use query::{Limits, limits_of};
+pub use route::{Route, Verb, allow_lists_the_methods};
+pub use routes::Routes;

@@ -1,7 +1,6 @@
 ghost use Rattle.std.specs.Prelude.{◌≡◌, ◌<◌, IfSome, length};
 ghost use Rattle.std.specs.List.{before_first, list_any, position, slice_split};
 ghost use Rattle.http_head.specs.Member.{is_comma};
-ghost use Rattle.rest_routes.specs.Place.{place_view};
 ghost use Rattle.rest_routes.specs.Media.{accepts, holds_binary, holds_general, is_acceptable, is_accepted, is_binary, is_described, is_general, is_semicolon, is_supported, is_wildcard, names};
 
 use crate::place::{Ask, Place};
@@ -84,8 +83,8 @@ fn accepts(records: bool, accept: &Option<Items<u8>>) -> bool
 }
 
 /// The reply of the place is of a type that the request accepts.
-pub fn is_acceptable(place: Place<'_>, request: &Request) -> bool
-    ensures { result ≡ is_acceptable (place_view place.entry) request.now.accept }
+pub fn is_acceptable(place: &Place, request: &Request) -> bool
+    ensures { result ≡ is_acceptable place.now request.now.accept }
 {
     match place {
         Place::Instance(_, _, Ask::Records) => accepts(true, &request.accept),
@@ -118,8 +117,8 @@ fn is_described(body: &[u8], content_type: &Option<Items<u8>>) -> bool
 }
 
 /// The place reads a body of the type that the request names, and in no encoding.
-pub fn is_supported(place: Place<'_>, request: &Request) -> bool
-    ensures { result ≡ is_supported (place_view place.entry) request.now }
+pub fn is_supported(place: &Place, request: &Request) -> bool
+    ensures { result ≡ is_supported place.now request.now }
 {
     match place {
         Place::Topic(_) => !request.encoded && holds_binary(&request.content_type),

@@ -1,6 +1,7 @@
 -- A step of the checksum is linear over `bit_xor`, so the parts of eight bytes may be looked up apart.
 use Rattle.std.proofs.Common.{◌≡◌, ◌⊎◌, ℕ, zero, suc, ◌+◌, ◌*◌, ◌/◌, ◌%◌, ◌^◌, ◌<◌, refl, sym, ap, ◌∙◌, inl, inr, arith, pow-suc, mul_comm, subst, List, [], ◌∷◌, length, fold}
 use Rattle.std.proofs.Math.Nat.{mul_assoc}
+use Rattle.std.specs.Int.{w32, from_le_bytes}
 use Rattle.std.specs.Int.Bits.{bit_xor, xor_assoc, xor_self, xor_zero_l, xor_zero_r}
 use Rattle.std.proofs.lemmas.Nat.{xor_comm, xor_shr, xor_mod, xor_block, shr-shr}
 use Rattle.std.proofs.lemmas.Bool.{cases_lt}
@@ -152,3 +153,22 @@ fold-eight crc a b c d e f g h small =
     let second = meets 6 (crc / 2 ^ 8) b _ (c ∷ d ∷ e ∷ f ∷ g ∷ h ∷ []) refl (sym third ∙ ap (λ z. bit_xor (zero_bytes 6 z) (fold byte_step 0 (c ∷ d ∷ e ∷ f ∷ g ∷ h ∷ []))) (sym (shr-shr crc 8 8))) in
     let first = meets 7 crc a _ (b ∷ c ∷ d ∷ e ∷ f ∷ g ∷ h ∷ []) refl (sym second) in
     sym first ∙ sym (fold-from (a ∷ b ∷ c ∷ d ∷ e ∷ f ∷ g ∷ h ∷ []) crc)
+
+-- a byte of the sum so far and of a word
+byte_of : (crc word k byte : ℕ) → word / 2 ^ k % 2 ^ 8 ≡ byte → bit_xor crc word / 2 ^ k % 2 ^ 8 ≡ bit_xor (crc / 2 ^ k % 2 ^ 8) byte
+byte_of crc word k byte is =
+    ap (λ z. z % 2 ^ 8) (xor_shr crc word k) ∙ xor_mod (crc / 2 ^ k) (word / 2 ^ k) 8 ∙ ap (bit_xor (crc / 2 ^ k % 2 ^ 8)) is
+
+-- eight bytes at once, the first four as one word
+pub fold-word : (crc low a b c d e f g h : ℕ) → crc < 2 ^ 32 → a < 2 ^ 8 → b < 2 ^ 8 → c < 2 ^ 8 → d < 2 ^ 8
+    → low ≡ bit_xor crc (from_le_bytes w32 (a ∷ b ∷ c ∷ d ∷ []))
+    → bit_xor (zero_bytes 8 (low % 2 ^ 8)) (bit_xor (zero_bytes 7 (low / 2 ^ 8 % 2 ^ 8)) (bit_xor (zero_bytes 6 (low / 2 ^ 16 % 2 ^ 8))
+    (bit_xor (zero_bytes 5 (low / 2 ^ 24 % 2 ^ 8)) (bit_xor (zero_bytes 4 e) (bit_xor (zero_bytes 3 f) (bit_xor (zero_bytes 2 g) (zero_bytes 1 h)))))))
+    ≡ fold byte_step crc (a ∷ b ∷ c ∷ d ∷ e ∷ f ∷ g ∷ h ∷ [])
+fold-word crc low a b c d e f g h small a_fits b_fits c_fits d_fits is =
+    let word = from_le_bytes w32 (a ∷ b ∷ c ∷ d ∷ []) in
+    let first : low % 2 ^ 8 ≡ bit_xor (crc % 2 ^ 8) a = ap (λ z. z % 2 ^ 8) is ∙ xor_mod crc word 8 ∙ ap (bit_xor (crc % 2 ^ 8)) (omega arith) in
+    let second = ap (λ z. z / 2 ^ 8 % 2 ^ 8) is ∙ byte_of crc word 8 b (omega arith) in
+    let third = ap (λ z. z / 2 ^ 16 % 2 ^ 8) is ∙ byte_of crc word 16 c (omega arith) in
+    let fourth = ap (λ z. z / 2 ^ 24 % 2 ^ 8) is ∙ byte_of crc word 24 d (omega arith) in
+    rw (first, second, third, fourth) (fold-eight crc a b c d e f g h small)

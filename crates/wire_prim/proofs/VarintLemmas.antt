@@ -90,3 +90,8 @@ pub groups_ended : (more count number : ℕ) (groups whole : List ℕ) → count
     → take count groups ++ groups_of (more - count) number ≡ whole → take (count + 1) (slice_set groups count number) ≡ whole
 groups_ended more count number groups whole inside last written =
     take_more_set groups count number inside ∙ ap (λ t. take count groups ++ t) (sym (groups_stop (more - count) number last)) ∙ written
+
+-- the groups of a number that has two
+pub groups_two : (more number : ℕ) → number < 128 ^ (more + 1) → 128 ≤ number → number < 16384 → groups_of more number ≡ (128 + number % 128) ∷ number / 128 ∷ []
+groups_two zero number small large few = absurd (omega arith)
+groups_two (suc more) number small large few = groups_go more number large ∙ ap (λ t. (128 + number % 128) ∷ t) (groups_stop more (number / 128) (omega arith))

@@ -36,10 +36,13 @@ pub record IsVarint (limit : ℕ) (value : ℤ) (item : List ℕ) : Type 0 where
 abbrev pub varint_at : List ℕ → ℤ
 varint_at bytes = unzigzag (grouped (run_of bytes))
 
--- a byte below 128 stood at the front, and has been read
-pub record IsOneByte (byte : ℕ) (old new : Reading) : Type 0 where
-  pub low : byte < 128
-  pub takes : Takes (byte ∷ []) old new
+-- a run of one byte or two stood at the front and makes the number, and has been read
+pub record IsFew (number : ℕ) (old new : Reading) : Type 0 where
+  pub few : lead old.left ≤ 1
+  pub ended : lead old.left < length old.left
+  pub takes : Takes (run_of old.left) old new
+  pub groups : number ≡ grouped (run_of old.left)
+  pub small : number < 128 ^ 2
 
 -- what follows a run of at most so many bytes
 abbrev pub behind_run : ℕ → List ℕ → Behind

@@ -22,10 +22,11 @@ fn after_eight(crc: u32, bytes: &[u8; 8]) -> u32
     ensures { result ≡ fold byte_step crc bytes.now }
 {
     let [a, b, c, d, e, f, g, h] = bytes;
-    let first = part(7, (crc % 256) as u8 ^ *a);
-    let second = part(6, ((crc >> 8) % 256) as u8 ^ *b);
-    let third = part(5, ((crc >> 16) % 256) as u8 ^ *c);
-    let fourth = part(4, ((crc >> 24) % 256) as u8 ^ *d);
+    let low = crc ^ u32::from_le_bytes([*a, *b, *c, *d]);
+    let first = part(7, (low % 256) as u8);
+    let second = part(6, ((low >> 8) % 256) as u8);
+    let third = part(5, ((low >> 16) % 256) as u8);
+    let fourth = part(4, ((low >> 24) % 256) as u8);
     let rest = part(3, *e) ^ (part(2, *f) ^ (part(1, *g) ^ part(0, *h)));
     first ^ (second ^ (third ^ (fourth ^ rest)))
 }

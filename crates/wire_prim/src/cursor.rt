@@ -2,7 +2,7 @@
 ghost use Rattle.std.specs.Prelude.{◌≡◌, ◌<◌, ◌≤◌, ◌^◌, suc, pos, length, IfOk, IfNone, IfSome, OnErr, option_map, string_bytes};
 ghost use Rattle.wire_prim.specs.Reading.{Takes};
 ghost use Rattle.wire_prim.specs.Behind.{Answers, AnswersOrWants, behind_bytes, behind_bytes_item, behind_count, behind_int8, behind_int16, behind_int32, behind_int64, behind_nullable_bytes, behind_nullable_count, behind_nullable_string, behind_sized, behind_string, behind_text, count_at, int8_at, int16_at, int32_at, int64_at, nullable_count_at};
-ghost use Rattle.wire_prim.specs.Varint.{IsOneByte, IsVarint, behind_run, behind_varint, behind_varlong, lead, run_of, varint_at};
+ghost use Rattle.wire_prim.specs.Varint.{IsFew, IsVarint, behind_run, behind_varint, behind_varlong, lead, run_of, varint_at};
 ghost use Rattle.wire_prim.specs.Item.{bytes_item, count_item, int8_bytes, int16_bytes, int32_bytes, int64_bytes, nullable_bytes_item, nullable_count_item, nullable_string_item, string_item};
 
 use crate::error::PrimNo;
@@ -319,22 +319,27 @@ impl<'a> Cursor<'a> {
         Ok(run)
     }
 
-    // The byte of a varint that has no other.
-    fn one_byte(&mut self) -> Option<u8>
-        ensures value { IfSome result (λ byte. IsOneByte byte self.old self.new) }
+    // The number of a varint of one byte or two.
+    fn few(&mut self) -> Option<u64>
+        ensures value { IfSome result (λ number. IsFew number self.old self.new) }
         ensures stays { IfNone result (self.new ≡ self.old) }
     {
         match self.rest {
-            [byte, rest @ ..] if *byte < 128 => {
+            [first, rest @ ..] if *first < 128 => {
                 self.rest = rest;
                 self.place += 1;
-                Some(*byte)
+                Some(u64::from(*first))
+            }
+            [first, second, rest @ ..] if *second < 128 => {
+                self.rest = rest;
+                self.place += 2;
+                Some(u64::from(*first % 128) + 128 * u64::from(*second))
             }
             _ => None,
         }
     }
 
-    // A VARINT of several bytes.
+    // A VARINT of more bytes than two.
     fn long_varint(&mut self) -> Result<i32, PrimNo>
         ensures value { IfOk result (λ value.
             IsVarint 5 value (run_of self.old.left)
@@ -362,13 +367,13 @@ impl<'a> Cursor<'a> {
         ensures answer { Answers result (behind_varint self.old.left) self.new.left }
         ensures stays { OnErr result (self.new ≡ self.old) }
     {
-        match self.one_byte() {
-            Some(byte) => Ok(unzigzag(u64::from(byte)) as i32),
+        match self.few() {
+            Some(number) => Ok(unzigzag(number) as i32),
             None => self.long_varint(),
         }
     }
 
-    // A VARLONG of several bytes.
+    // A VARLONG of more bytes than two.
     fn long_varlong(&mut self) -> Result<i64, PrimNo>
         ensures value { IfOk result (λ value.
             IsVarint 10 value (run_of self.old.left)
@@ -396,8 +401,8 @@ impl<'a> Cursor<'a> {
         ensures answer { Answers result (behind_varlong self.old.left) self.new.left }
         ensures stays { OnErr result (self.new ≡ self.old) }
     {
-        match self.one_byte() {
-            Some(byte) => Ok(unzigzag(u64::from(byte))),
+        match self.few() {
+            Some(number) => Ok(unzigzag(number)),
             None => self.long_varlong(),
         }
     }

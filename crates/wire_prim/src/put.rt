@@ -153,7 +153,13 @@ fn put_groups(out: &mut Vec<u8>, more: usize, number: u64) -> Result<(), Want>
     ensures stays { OnErr result (out.new.items ≡ out.old.items) }
 {
     if number < 128 {
-        return put(out, &[number as u8]);
+        return match out.push(number as u8) {
+            Ok(()) => Ok(()),
+            Err(_) => Err(Want),
+        };
+    }
+    if number < 16384 {
+        return put(out, &[128 + (number % 128) as u8, (number / 128) as u8]);
     }
     let mut groups = [0u8; 10];
     let mut number = number;

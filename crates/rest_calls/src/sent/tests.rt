@@ -28,8 +28,22 @@ fn places_read_as(
 
 const NAMED: &str = "/consumers/a.b_c-9Z/instances/-/records";
 
-const PLACES: [(&str, &str, &str, &str); 7] = [
-    ("GET", "/consumers/g", "", "404 Not found."),
+const PLACES: [(&str, &str, &str, &str); 11] = [
+    ("GET", "/consumers/g", "", "405 9"),
+    ("PUT", "/topics/t", "", "405 3"),
+    ("GET", "/topics/t", "", "404 Not found."),
+    (
+        "DELETE",
+        "/consumers/a%20b/instances/c%2F1",
+        "",
+        "delete a b c/1",
+    ),
+    (
+        "GET",
+        NAMED,
+        "tim%65out=%32%35&x=1+1",
+        "records a.b_c-9Z - timeout 25",
+    ),
     ("POST", "/consumers/g", "", "create g unnamed end 1 1000"),
     ("DELETE", "/consumers/g/instances/c1", "", "delete g c1"),
     ("GET", ASSIGNMENTS_OF, "", "assignments g c1"),

@@ -1,5 +1,6 @@
 use super::{is_acceptable, is_supported};
-use crate::place::place_of;
+use crate::place::{Place, place_of};
+use crate::routes::Routes;
 use crate::sample::request_of;
 use http_conn::Request;
 use std::alloc::Global;
@@ -19,10 +20,15 @@ const RECORDS: (&str, &str) = ("GET", "/consumers/g/instances/c/records");
 const BINARY: &str = "application/vnd.kafka.binary.v2+json";
 
 /// What is said of a request's media types: 200, 406, 415, or 404 where it has no place.
-fn status_of(request: &Request) -> u32 {
-    let Some(place) = place_of(request) else {
-        return 404;
+fn status_of(alloc: Global, request: &Request) -> Result<u32, Fail> {
+    let routes = Routes::new(alloc)?;
+    let Ok(place) = place_of(alloc, &routes, request) else {
+        return Ok(404);
     };
+    Ok(judged(&place, request))
+}
+
+fn judged(place: &Place, request: &Request) -> u32 {
     if !is_acceptable(place, request) {
         return 406;
     }
@@ -35,7 +41,7 @@ fn status_of(request: &Request) -> u32 {
 
 fn accepting(alloc: Global, line: (&str, &str), accept: &str) -> Result<u32, Fail> {
     let request = request_of(alloc, line.0, line.1, accept, BINARY, "")?;
-    Ok(status_of(&request))
+    status_of(alloc, &request)
 }
 
 /// Each request that accepts this is said to be so.
@@ -84,7 +90,7 @@ fn a_reply_is_of_a_type_that_is_accepted(rt: HostRuntime) -> Result<(), Fail> {
 
 fn sending(alloc: Global, line: (&str, &str), media: &str, body: &str) -> Result<u32, Fail> {
     let request = request_of(alloc, line.0, line.1, "", media, body)?;
-    Ok(status_of(&request))
+    status_of(alloc, &request)
 }
 
 /// Each request that sends a body of this type is said to be so.

@@ -1,4 +1,5 @@
 use super::limits_of;
+use std::alloc::Global;
 use std::process::Abort;
 use std::test::Fail;
 
@@ -6,9 +7,9 @@ use std::test::Fail;
 type Given = Option<(Option<u64>, Option<u64>)>;
 
 /// Each query gives the limits beside it, or is refused.
-fn queries_give(rt: &impl Abort, cases: &[(&str, Given)]) -> Result<(), Fail> {
+fn queries_give(rt: &impl Abort, alloc: Global, cases: &[(&str, Given)]) -> Result<(), Fail> {
     for (place, (query, want)) in cases.iter().enumerate() {
-        let limits = match limits_of(query) {
+        let limits = match limits_of(alloc, query)? {
             Some(limits) => Some((limits.timeout, limits.max_bytes)),
             None => None,
         };
@@ -18,7 +19,7 @@ fn queries_give(rt: &impl Abort, cases: &[(&str, Given)]) -> Result<(), Fail> {
 }
 
 // A field without `=` is a name with an empty value: URL Standard, application/x-www-form-urlencoded.
-const QUERIES: [(&str, Given); 17] = [
+const QUERIES: [(&str, Given); 22] = [
     ("", Some((None, None))),
     ("timeout=25", Some((Some(25), None))),
     ("max_bytes=1", Some((None, Some(1)))),
@@ -30,9 +31,14 @@ const QUERIES: [(&str, Given); 17] = [
         Some((Some(99_999_999_999_999_999), None)),
     ),
     (
-        "Timeout=x&xtimeout=x&tim%65out=x&x=timeout=5",
+        "Timeout=x&xtimeout=x&time+out=x&x=timeout=5",
         Some((None, None)),
     ),
+    ("tim%65out=%32%35&timeout=x", Some((Some(25), None))),
+    ("tim%2565out=x&max%5Fbytes=1", Some((None, Some(1)))),
+    ("timeout=1+", None),
+    ("timeout=%2b1", None),
+    ("timeout=%2531", None),
     ("timeout=0000000000000000001", None),
     ("timeout=", None),
     ("timeout", None),
@@ -46,5 +52,5 @@ const QUERIES: [(&str, Given); 17] = [
 
 #[test]
 fn reads_the_limits_of_a_query(rt: HostRuntime) -> Result<(), Fail> {
-    queries_give(&rt, &QUERIES)
+    queries_give(&rt, rt.alloc(), &QUERIES)
 }

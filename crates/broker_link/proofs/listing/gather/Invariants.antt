@@ -1,6 +1,6 @@
 use Rattle.std.proofs.Common.{take}
 use Rattle.std.specs.Prelude.{All, option_map}
-use Rattle.model.specs.Log.{shape_of}
+use Rattle.model.specs.state.Log.{shape_of}
 use Rattle.broker_link.specs.Made.{ArePlans}
 use Rattle.broker_link.specs.Stored.{log_of}
 use Rattle.broker_link.specs.Infos.{AreOnNodeOne, Gathered}

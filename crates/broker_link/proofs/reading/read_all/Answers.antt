@@ -1,5 +1,5 @@
 use Rattle.std.proofs.Common.{◌+◌, List, subst, sym, take}
-use Rattle.model.specs.Log.{Log}
+use Rattle.model.specs.state.Log.{Log}
 use Rattle.broker_link.specs.Reads.{IsReading}
 use Rattle.broker_link.specs.Stored.{log_of}
 use Rattle.broker_link.specs.declared.fetch.Fetched.{Fetched}

@@ -2,7 +2,7 @@ use Rattle.std.proofs.Common.{rules, nat_abs, w32, w64, ap, refl}
 use Rattle.std.proofs.lemmas.Int.{to_z-of_z}
 use Rattle.std.specs.Prelude.{[]}
 use mir.Val.{SFits}
-use Rattle.model.specs.Log.{Log}
+use Rattle.model.specs.state.Log.{Log}
 use Rattle.broker_link.specs.Stored.{log_of}
 use Rattle.broker_link.specs.declared.fetch.FetchFrom.{FetchFrom}
 use Rattle.broker_link.proofs.Taking.{asked_there, fetched_if, fills_if, got_if, lacking_there}

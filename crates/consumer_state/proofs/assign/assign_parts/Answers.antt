@@ -1,19 +1,20 @@
 use Rattle.std.proofs.Common.{◌≡◌, ap, sym, subst, ◌∙◌, refl, List, map, inl, inr, [], Vec, Global}
 use Rattle.std.specs.Prelude.{◌≢◌}
-use Rattle.model.specs.Log.{IsLog, Log, TopicPart}
-use Rattle.model.specs.Walk.{Place}
-use Rattle.model.specs.World.{Key, Consumer}
-use Rattle.model.specs.World.Mode.{ByTopics}
-use Rattle.model.specs.Fixed.{Fixes}
-use Rattle.model.specs.Entry.Reply.{Done, Want}
+use Rattle.model.specs.state.Log.{IsLog, Log, TopicPart}
+use Rattle.model.specs.step.Walk.{Place}
+use Rattle.model.specs.state.World.{Key, Consumer}
+use Rattle.model.specs.state.World.Mode.{ByTopics}
+use Rattle.model.specs.step.Fixed.{Fixes}
+use Rattle.model.specs.state.Entry.Reply.{Done, Want}
 use Rattle.broker_link.specs.Causes.{Counts}
 use Rattle.broker_link.specs.Fetching.{at_of}
 use Rattle.rest_calls.specs.Responses.{response_in}
 use Rattle.rest_calls.specs.Views.{key_in}
 use Rattle.rest_codes.specs.declared.response.Reply.TheVariants as reply
-use Rattle.consumer_state.specs.Linking.{refusal_of}
-use Rattle.consumer_state.specs.Views.{at_in, consumer_of, place_of}
-use Rattle.consumer_state.specs.declared.place.Place.{Place as CodePlace}
+use Rattle.consumer_state.specs.LinkCalls.{refusal_of}
+use Rattle.broker_link.specs.Places.{at_in, place_of}
+use Rattle.consumer_state.specs.Views.{consumer_of}
+use Rattle.broker_link.specs.declared.place.Place.{Place as CodePlace}
 use Rattle.consumer_state.proofs.Assigning.{assign_acts, ends_assigned, ends_cleared, ends_failed, ends_wanting, none_listed, none_there, not_by_topics, set_there, some_listed, still_there}
 use Rattle.consumer_state.proofs.Fixing.{ats_are}
 use Rattle.consumer_state.proofs.Linking.{counted_done, counted_failed, counts_stay, goes_nowhere}

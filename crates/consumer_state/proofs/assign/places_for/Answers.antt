@@ -2,13 +2,13 @@ use Rattle.std.proofs.Common.{◌≡◌, ap, sym, subst, ◌∙◌, List, ℕ, m
 use Rattle.std.specs.Prelude.{All}
 use Rattle.std.proofs.lemmas.List.Elements.{All-weaker}
 use Rattle.std.proofs.lemmas.Result.{IfOk-weaker}
-use Rattle.model.specs.Log.{Log, TopicPart}
-use Rattle.model.specs.Walk.{Place}
-use Rattle.model.specs.Fixed.{Fixes, HasPart}
-use Rattle.model.specs.Rules.{lacking}
+use Rattle.model.specs.state.Log.{Log, TopicPart}
+use Rattle.model.specs.step.Walk.{Place}
+use Rattle.model.specs.step.Fixed.{Fixes, HasPart}
+use Rattle.model.specs.step.Rules.{lacking}
 use Rattle.broker_link.specs.Fetching.{at_of, edge_view}
 use Rattle.broker_link.specs.declared.fetch.TopicPart.{TopicPart as Part}
-use Rattle.consumer_state.specs.Views.{place_of}
+use Rattle.broker_link.specs.Places.{place_of}
 use Rattle.consumer_state.proofs.Fixing.{fixes_since, has_part_later, is_set, sorted_there}
 use Rattle.consumer_state.proofs.Lacking.{fits_failed}
 use Rattle.consumer_state.proofs.Linking.{ok_both}

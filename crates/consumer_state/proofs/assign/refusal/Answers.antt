@@ -1,6 +1,6 @@
 use Rattle.std.proofs.Common.{sym, subst}
-use Rattle.consumer_state.specs.Failing.{SaysOrWant}
-use Rattle.consumer_state.specs.Linking.{refusal_of}
+use Rattle.rest_replies.specs.Failure.{SaysOrWant}
+use Rattle.consumer_state.specs.LinkCalls.{refusal_of}
 use Rattle.consumer_state.specs.declared.topics.AssignNo.{AssignNo}
 use Rattle.consumer_state.proofs.assign.refusal.Goals as goal
 

@@ -3,14 +3,14 @@ use Rattle.std.specs.List.{AllZip}
 use Rattle.std.proofs.lemmas.List.{length-map}
 use Rattle.std.proofs.lemmas.Result.{IfOk-weaker}
 use Rattle.std.proofs.lemmas.List.Elements.{All-weaker}
-use Rattle.model.specs.Log.{Log, TopicPart}
-use Rattle.model.specs.Walk.{Place}
-use Rattle.model.specs.Fixed.{HasPart}
+use Rattle.model.specs.state.Log.{Log, TopicPart}
+use Rattle.model.specs.step.Walk.{Place}
+use Rattle.model.specs.step.Fixed.{HasPart}
 use Rattle.broker_link.specs.Fetching.{IsCommittedAt, at_of, edge_view}
 use Rattle.broker_link.specs.declared.fetch.TopicPart.{TopicPart as Part}
-use Rattle.consumer_state.specs.Fixing.{IsKnown, is_new, merged}
-use Rattle.consumer_state.specs.Sorting.{AreRising}
-use Rattle.consumer_state.specs.Views.{place_of}
+use Rattle.consumer_state.specs.Fix.{IsKnown, is_new, merged}
+use Rattle.consumer_state.specs.Order.{AreRising}
+use Rattle.broker_link.specs.Places.{place_of}
 use Rattle.consumer_state.proofs.Fixing.{fixes_of, fixes_since, has_part_later, long_merged}
 use Rattle.consumer_state.proofs.Knowing.{all_known}
 use Rattle.consumer_state.proofs.Linking.{goes_on}

@@ -1,12 +1,12 @@
 use Rattle.std.proofs.Common.{◌≡◌, ◌++◌, ◌∷◌, [], ap, sym, subst, ◌∙◌, ℤ, map, arith, rules, slice_index_or, pos, to_z, of_z, w64}
 use Rattle.std.proofs.lemmas.Int.{to_z-of_z}
 use Rattle.std.proofs.lemmas.Result.{err_from_is_err_and}
-use Rattle.model.specs.Log.{Log}
+use Rattle.model.specs.state.Log.{Log}
 use Rattle.broker_link.specs.Fetching.{edge_view}
 use Rattle.broker_link.specs.Replies.{IsGood}
 use Rattle.consumer_state.specs.declared.topics.AssignNo.{AssignNo}
-use Rattle.consumer_state.specs.Linking.{refusal_of}
-use Rattle.consumer_state.specs.Views.{at_in}
+use Rattle.consumer_state.specs.LinkCalls.{refusal_of}
+use Rattle.broker_link.specs.Places.{at_in}
 use Rattle.consumer_state.proofs.Fixing.{fixed_next, low_push, part_has, whose_next}
 use Rattle.consumer_state.proofs.Linking.{counts_kept, goes_on}
 use Rattle.consumer_state.proofs.fix.fix_all.Goals as goal

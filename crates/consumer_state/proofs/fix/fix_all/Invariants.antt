@@ -1,11 +1,11 @@
 use Rattle.std.proofs.Common.{◌≡◌, take, map}
-use Rattle.model.specs.Log.{IsLog}
-use Rattle.model.specs.World.{IsLow}
+use Rattle.model.specs.state.Log.{IsLog}
+use Rattle.model.specs.state.World.{IsLow}
 use Rattle.broker_link.specs.Fetching.{at_of, edge_view}
 use Rattle.broker_link.specs.Replies.{CountsKept}
-use Rattle.consumer_state.specs.Fixing.{AreFixed}
-use Rattle.consumer_state.specs.Linking.{GoesOn}
-use Rattle.consumer_state.specs.Views.{at_in, place_of}
+use Rattle.consumer_state.specs.Fix.{AreFixed}
+use Rattle.consumer_state.specs.LinkCalls.{GoesOn}
+use Rattle.broker_link.specs.Places.{at_in, place_of}
 use Rattle.consumer_state.proofs.fix.fix_all.Given as goal
 
 abbrev pub invariant-loop-i : goal.invariant-loop-i

@@ -1,5 +1,5 @@
 use Rattle.std.proofs.Common.{map}
-use Rattle.consumer_state.specs.Views.{place_of}
+use Rattle.broker_link.specs.Places.{place_of}
 use Rattle.consumer_state.proofs.Knowing.{has_offset, merged_end, merged_next, room_next}
 use Rattle.consumer_state.proofs.known.known_of.Goals as goal
 

@@ -1,8 +1,8 @@
 use Rattle.std.proofs.Common.{◌≡◌, ◌+◌, ◌++◌, drop, length, map}
 use Rattle.std.specs.Prelude.{filter}
 use Rattle.broker_link.specs.Fetching.{at_of}
-use Rattle.consumer_state.specs.Fixing.{is_new, merged}
-use Rattle.consumer_state.specs.Views.{place_of}
+use Rattle.consumer_state.specs.Fix.{is_new, merged}
+use Rattle.broker_link.specs.Places.{place_of}
 use Rattle.consumer_state.proofs.known.known_of.Given as goal
 
 abbrev pub invariant-loop-part : goal.invariant-loop-part

@@ -1,6 +1,6 @@
 use Rattle.std.proofs.Common.{map}
-use Rattle.consumer_state.specs.Fixing.{is_new}
-use Rattle.consumer_state.specs.Views.{place_of}
+use Rattle.consumer_state.specs.Fix.{is_new}
+use Rattle.broker_link.specs.Places.{place_of}
 use Rattle.consumer_state.proofs.Knowing.{news_next}
 use Rattle.consumer_state.proofs.known.news_of.Goals as goal
 

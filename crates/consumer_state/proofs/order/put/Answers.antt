@@ -4,7 +4,7 @@ use Rattle.std.specs.List.{position_or_len, insert}
 use Rattle.std.proofs.lemmas.List.Sums.{prefix_len-le-length}
 use Rattle.broker_link.specs.Fetching.{at_of}
 use Rattle.broker_link.specs.declared.fetch.TopicPart.{TopicPart as Part}
-use Rattle.consumer_state.specs.Sorting.{begins_with}
+use Rattle.consumer_state.specs.Order.{begins_with}
 use Rattle.consumer_state.proofs.Sorting.{from_here, put_stands, put_new}
 use Rattle.consumer_state.proofs.order.put.Goals as goal
 

@@ -3,8 +3,8 @@ use Rattle.std.specs.Prelude.{bytes_eq}
 use Rattle.std.specs.List.{list_any}
 use Rattle.broker_link.specs.Fetching.{at_of}
 use Rattle.broker_link.specs.declared.fetch.TopicPart.{TopicPart as Part}
-use Rattle.consumer_state.specs.Lacking.{topic_code}
-use Rattle.consumer_state.specs.Linking.{FitsCode}
+use Rattle.consumer_state.specs.Topics.{topic_code}
+use Rattle.consumer_state.specs.LinkCalls.{FitsCode}
 use Rattle.consumer_state.proofs.Lacking.{fits_next, pass_again}
 use Rattle.consumer_state.proofs.topics.check_place.Goals as goal
 

@@ -1,9 +1,9 @@
 use Rattle.std.proofs.Common.{take, map}
-use Rattle.model.specs.Log.{IsLog}
+use Rattle.model.specs.state.Log.{IsLog}
 use Rattle.broker_link.specs.Fetching.{at_of}
 use Rattle.broker_link.specs.Replies.{CountsKept}
-use Rattle.consumer_state.specs.Lacking.{Pass}
-use Rattle.consumer_state.specs.Linking.{GoesOn}
+use Rattle.consumer_state.specs.Topics.{Pass}
+use Rattle.consumer_state.specs.LinkCalls.{GoesOn}
 use Rattle.consumer_state.proofs.topics.check_topics.Given as goal
 
 abbrev pub invariant-loop-place : goal.invariant-loop-place

@@ -5,4 +5,4 @@ use Rattle.desk.proofs.naming.name_unnamed.Goals as goal
 
 pub returns-in-Ok-clause-entered : goal.returns-in-Ok-clause-entered
 returns-in-Ok-clause-entered c =
-    c.with_name.ensures ∙ named_enters c.args.caller (asked_of c.args.call) c.args.unnamed.now c.saturating_add.result c.from_string.result (sym c.is_unnamed.ensures ∙ c.if-not-is_unnamed.false) c.saturating_add.ensures (c.from_string.ensures ∙ c.in-Ok.ensures)
+    c.with_name.ensures ∙ named_enters c.args.caller (asked_of c.args.call) c.args.names_given.now c.saturating_add.result c.from_string.result (sym c.is_unnamed.ensures ∙ c.if-not-is_unnamed.false) c.saturating_add.ensures (c.from_string.ensures ∙ c.in-Ok.ensures)

@@ -1,6 +1,6 @@
 use Rattle.std.proofs.Common.{◌≡◌, take, map}
 use Rattle.instance.specs.Gathering.{asked}
-use Rattle.consumer_state.specs.Views.{place_of}
+use Rattle.broker_link.specs.Places.{place_of}
 use Rattle.instance.proofs.fetching.asks_from.Given as goal
 
 abbrev pub invariant-loop-place : goal.invariant-loop-place

@@ -3,16 +3,16 @@ use Rattle.std.specs.List.{All, AllZip, RotatedLeft}
 use Rattle.std.proofs.lemmas.Grind.{common_steps}
 use Rattle.std.proofs.lemmas.List.{length-map}
 use Rattle.std.proofs.lemmas.Slice.Zip.{AllZip-long}
-use Rattle.model.specs.Log.{Log}
-use Rattle.model.specs.Walk.{Place, turned}
+use Rattle.model.specs.state.Log.{Log}
+use Rattle.model.specs.step.Walk.{Place, turned}
 use Rattle.model.proofs.Walks.{All-turned}
-use Rattle.model.specs.Fixed.{HasPart}
+use Rattle.model.specs.step.Fixed.{HasPart}
 use Rattle.broker_link.specs.Fetching.{AreAsks, IsFetched, rows_in}
 use Rattle.broker_link.specs.declared.fetch.FetchFrom.{FetchFrom}
 use Rattle.broker_link.specs.declared.fetch.Fetched.{Fetched}
 use Rattle.instance.specs.Gathering.{AreGiven, asked, GotFrom}
-use Rattle.instance.specs.Lots.{HasOffsets}
-use Rattle.consumer_state.specs.Views.{place_of}
+use Rattle.instance.specs.Walk.{HasOffsets}
+use Rattle.broker_link.specs.Places.{place_of}
 use Rattle.instance.proofs.Gathering.{offsets_of, got_from, have_asked}
 use Rattle.instance.proofs.Turning.{turned_asks, asked_turned, given_turned_back, got_turned_back, length_turned}
 use Rattle.instance.proofs.fetching.fetch_from.Goals as goal

@@ -1,10 +1,10 @@
 use Rattle.std.proofs.Common.{List, map, sym, subst}
-use Rattle.model.specs.Entry.Reply.{Listed}
+use Rattle.model.specs.state.Entry.Reply.{Listed}
 use Rattle.rest_calls.specs.declared.call.Call.{Call}
-use Rattle.consumer_state.specs.Failing.{SaysOrWant}
+use Rattle.rest_replies.specs.Failure.{SaysOrWant}
 use Rattle.instance.specs.Telling.{TellsSo}
-use Rattle.consumer_state.specs.Views.{at_in}
-use Rattle.consumer_state.specs.declared.place.Place.{Place as CodePlace}
+use Rattle.broker_link.specs.Places.{at_in}
+use Rattle.broker_link.specs.declared.place.Place.{Place as CodePlace}
 use Rattle.instance.proofs.instance.told.Goals as goal
 
 pub returns-in-Assignments : goal.returns-in-Assignments

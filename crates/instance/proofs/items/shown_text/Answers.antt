@@ -1,8 +1,8 @@
 use Rattle.std.proofs.Common.{◌≡◌, ◌<◌, ap, sym, ◌∙◌, arith, List, length, slice_index_or, subst}
 use Rattle.std.specs.Prelude.{string_bytes}
-use Rattle.model.specs.Walk.{Lot}
+use Rattle.model.specs.step.Walk.{Lot}
 use Rattle.instance.specs.declared.walk.Pick.{Pick}
-use Rattle.instance.specs.Lots.{IsPick, lots_of}
+use Rattle.instance.specs.Walk.{IsPick, lots_of}
 use Rattle.instance.specs.Items.{quoted_topics}
 use Rattle.std.specs.List.{All}
 use Rattle.instance.proofs.Picking.{item_more, texts_whole, pick_within, has_row, topics_within}

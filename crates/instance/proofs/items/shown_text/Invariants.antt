@@ -1,9 +1,9 @@
 use Rattle.std.proofs.Common.{◌≡◌, ◌++◌, take, map}
 use Rattle.std.specs.Prelude.{codes, string_bytes}
-use Rattle.model.specs.World.Format.{Binary}
-use Rattle.model.specs.Bodies.{joined, item_text}
-use Rattle.consumer_state.specs.Acting.{forms}
-use Rattle.instance.specs.Lots.{item_in, lots_of}
+use Rattle.model.specs.state.World.Format.{Binary}
+use Rattle.model.specs.texts.Bodies.{joined, item_text}
+use Rattle.rest_replies.specs.Forms.{forms}
+use Rattle.instance.specs.Walk.{item_in, lots_of}
 use Rattle.instance.proofs.items.shown_text.Given as goal
 
 abbrev pub invariant-loop-i : goal.invariant-loop-i

@@ -1,12 +1,12 @@
 use Rattle.std.proofs.Common.{◌≡◌, List, map, length, refl, ap, sym, subst, ◌∙◌, arith}
 use Rattle.std.specs.List.{All}
-use Rattle.model.specs.Log.{Log}
-use Rattle.model.specs.Walk.{Place}
+use Rattle.model.specs.state.Log.{Log}
+use Rattle.model.specs.step.Walk.{Place}
 use Rattle.broker_link.specs.Fetching.{edge_view}
 use Rattle.broker_link.specs.declared.fetch.Fetched.{Fetched}
 use Rattle.instance.specs.Gathering.{AreSet, GotFrom, HaveAll, IsHand, news_of}
-use Rattle.instance.specs.Lots.{lots_of}
-use Rattle.consumer_state.specs.Views.{place_of}
+use Rattle.instance.specs.Walk.{lots_of}
+use Rattle.broker_link.specs.Places.{place_of}
 use Rattle.model.proofs.Stretches.{keeps_itself}
 use Rattle.instance.proofs.Passing.{passes_on}
 use Rattle.instance.proofs.Gathering.{if_ok_both, all_are_inside, hand_of}

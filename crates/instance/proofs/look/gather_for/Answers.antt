@@ -2,10 +2,10 @@ use Rattle.std.proofs.Common.{◌≡◌, List, map, length, ap, sym, subst, arit
 use Rattle.std.proofs.lemmas.Grind.{common_steps}
 use Rattle.std.proofs.lemmas.List.{with_items_is}
 use Rattle.std.specs.Vec.{with_items}
-use Rattle.model.specs.Walk.{Place}
-use Rattle.model.specs.World.{IsInOrder, IsLow}
-use Rattle.consumer_state.specs.declared.place.Place.{Place as CodePlace}
-use Rattle.consumer_state.specs.Views.{place_of}
+use Rattle.model.specs.step.Walk.{Place}
+use Rattle.model.specs.state.World.{IsInOrder, IsLow}
+use Rattle.broker_link.specs.declared.place.Place.{Place as CodePlace}
+use Rattle.broker_link.specs.Places.{place_of}
 use Rattle.instance.proofs.Setting.{order_set}
 use Rattle.instance.proofs.look.gather_for.Goals as goal
 

@@ -1,15 +1,16 @@
 use Rattle.std.proofs.Common.{◌≡◌, ℕ, ◌*◌, List, map, length, min, ap, sym, subst, ◌∙◌, arith}
 use Rattle.std.specs.List.{All}
 use Rattle.std.proofs.lemmas.List.{length-map}
-use Rattle.model.specs.Log.{Log, Row}
-use Rattle.model.specs.Walk.{Lot}
-use Rattle.model.specs.Events.{at_most}
+use Rattle.model.specs.state.Log.{Log, Row}
+use Rattle.model.specs.step.Walk.{Lot}
+use Rattle.model.specs.step.Events.{at_most}
 use Rattle.broker_link.specs.Fetching.{rows_in}
 use Rattle.broker_link.specs.declared.fetch.Fetched.{Fetched}
 use Rattle.instance.specs.Gathering.{AreGiven, IsHand}
-use Rattle.instance.specs.Lots.{HasOffsets, lots_of}
-use Rattle.consumer_state.specs.declared.place.Place.{Place as CodePlace}
-use Rattle.consumer_state.specs.Views.{consumer_of, place_of}
+use Rattle.instance.specs.Walk.{HasOffsets, lots_of}
+use Rattle.broker_link.specs.declared.place.Place.{Place as CodePlace}
+use Rattle.broker_link.specs.Places.{place_of}
+use Rattle.consumer_state.specs.Views.{consumer_of}
 use Rattle.instance.specs.Views.{event_of}
 use Rattle.instance.proofs.Gathering.{whose_are}
 use Rattle.instance.proofs.Handing.{handed_failed, handed_over, rows_of_lots}

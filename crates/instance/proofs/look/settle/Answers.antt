@@ -1,10 +1,10 @@
 use Rattle.std.proofs.Common.{refl, List, map, length, nat_le, ◌*◌, ap, sym, ◌∙◌, arith}
 use Rattle.std.proofs.lemmas.Grind.{common_steps}
 use Rattle.std.proofs.lemmas.List.{length-map}
-use Rattle.model.specs.Walk.{Lot}
-use Rattle.model.specs.Events.{moved}
+use Rattle.model.specs.step.Walk.{Lot}
+use Rattle.model.specs.step.Events.{moved}
 use Rattle.instance.specs.declared.walk.Pick.{Pick}
-use Rattle.instance.specs.Lots.{item_in, lots_of, seen}
+use Rattle.instance.specs.Walk.{item_in, lots_of, seen}
 use Rattle.consumer_state.specs.Views.{consumer_of}
 use Rattle.instance.proofs.Ending.{shown}
 use Rattle.instance.proofs.look.settle.Goals as goal

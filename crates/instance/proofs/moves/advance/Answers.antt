@@ -1,8 +1,8 @@
 use Rattle.std.proofs.Common.{◌≡◌, ◌<◌, ℤ, map, length, pos, ◌≤ℤ◌, nat_abs, slice_index_or, sym, ap, ◌∙◌, subst, arith, to_z, of_z, w64}
 use Rattle.std.proofs.lemmas.Int.{to_z-of_z}
 use Rattle.instance.specs.declared.walk.Pick.{Pick}
-use Rattle.instance.specs.Lots.{IsOffset, put_at}
-use Rattle.consumer_state.specs.Views.{place_of}
+use Rattle.instance.specs.Walk.{IsOffset, put_at}
+use Rattle.broker_link.specs.Places.{place_of}
 use Rattle.instance.proofs.Picking.{has_row, pick_within, stored_offset}
 use Rattle.instance.proofs.Moving.{moved_none, advance_more}
 use Rattle.instance.proofs.moves.advance.Goals as goal

@@ -1,7 +1,7 @@
 use Rattle.std.proofs.Common.{◌≡◌, take, map}
-use Rattle.model.specs.World.{IsLow, moved_places}
-use Rattle.instance.specs.Lots.{item_in, lots_of}
-use Rattle.consumer_state.specs.Views.{place_of}
+use Rattle.model.specs.state.World.{IsLow, moved_places}
+use Rattle.instance.specs.Walk.{item_in, lots_of}
+use Rattle.broker_link.specs.Places.{place_of}
 use Rattle.instance.proofs.moves.advance.Given as goal
 
 abbrev pub invariant-loop-pick : goal.invariant-loop-pick

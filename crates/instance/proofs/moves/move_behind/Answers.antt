@@ -3,14 +3,15 @@ use Rattle.std.proofs.lemmas.Grind.{common_steps}
 use Rattle.std.proofs.lemmas.Bool.Decides.{nat_tests}
 use Rattle.std.proofs.lemmas.List.{with_items_is, length-map, nil_from_length}
 use Rattle.std.specs.Vec.{with_items}
-use Rattle.model.specs.Events.{moved}
-use Rattle.model.specs.World.{IsLow, IsApart, IsInOrder, moved_places}
-use Rattle.model.specs.Walk.{Place, Item}
+use Rattle.model.specs.step.Events.{moved}
+use Rattle.model.specs.state.World.{IsLow, IsApart, IsInOrder, moved_places}
+use Rattle.model.specs.step.Walk.{Place, Item}
 use Rattle.model.proofs.Moves.{apart_from_order}
 use Rattle.instance.specs.declared.walk.Pick.{Pick}
-use Rattle.consumer_state.specs.declared.place.Place.{Place as CodePlace}
-use Rattle.instance.specs.Lots.{item_in, lots_of}
-use Rattle.consumer_state.specs.Views.{consumer_of, mode_of, place_of}
+use Rattle.broker_link.specs.declared.place.Place.{Place as CodePlace}
+use Rattle.instance.specs.Walk.{item_in, lots_of}
+use Rattle.broker_link.specs.Places.{place_of}
+use Rattle.consumer_state.specs.Views.{consumer_of, mode_of}
 use Rattle.instance.proofs.Picking.{pick_within}
 use Rattle.instance.proofs.Moving.{moved_is, moved_by_none, order_moved}
 use Rattle.instance.proofs.moves.move_behind.Goals as goal

@@ -1,10 +1,10 @@
 use Rattle.std.proofs.Common.{◌≡◌, ap, sym, arith, to_z, of_z, w64, nat_abs}
 use Rattle.std.proofs.lemmas.Int.{to_z-of_z, ints}
-use Rattle.consumer_state.specs.Views.{at_in}
+use Rattle.broker_link.specs.Places.{at_in}
 use Rattle.instance.proofs.Moving.{low_put, put_is}
 use Rattle.std.proofs.Common.{◌<◌, ◌^◌, subst, map}
-use Rattle.model.specs.World.{IsLow}
-use Rattle.consumer_state.specs.Views.{place_of}
+use Rattle.model.specs.state.World.{IsLow}
+use Rattle.broker_link.specs.Places.{place_of}
 use Rattle.instance.proofs.moves.put_position.Goals as goal
 
 pub returns-clause-places : goal.returns-clause-places

@@ -1,6 +1,6 @@
 use Rattle.std.proofs.Common.{sym, map, arith, None}
 use Rattle.std.proofs.lemmas.List.{get_or_default, length-map}
-use Rattle.consumer_state.specs.Views.{place_of}
+use Rattle.broker_link.specs.Places.{place_of}
 use Rattle.instance.proofs.Resetting.{put_none, put_more}
 use Rattle.instance.proofs.resets.put_told.Goals as goal
 

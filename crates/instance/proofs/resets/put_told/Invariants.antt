@@ -1,7 +1,7 @@
 use Rattle.std.proofs.Common.{◌≡◌, take, map}
-use Rattle.model.specs.World.{IsLow}
+use Rattle.model.specs.state.World.{IsLow}
 use Rattle.instance.specs.Gathering.{put_all}
-use Rattle.consumer_state.specs.Views.{place_of}
+use Rattle.broker_link.specs.Places.{place_of}
 use Rattle.instance.proofs.resets.put_told.Given as goal
 
 abbrev pub invariant-loop-i : goal.invariant-loop-i

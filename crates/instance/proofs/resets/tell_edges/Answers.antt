@@ -2,10 +2,10 @@ use Rattle.std.proofs.Common.{◌≡◌, ◌+◌, take, length, map, sym, ap, su
 use Rattle.std.specs.List.{All}
 use Rattle.std.proofs.lemmas.List.{length_push}
 use Rattle.std.proofs.lemmas.List.Elements.{All-push}
-use Rattle.model.specs.Log.{Log}
+use Rattle.model.specs.state.Log.{Log}
 use Rattle.broker_link.specs.Fetching.{edge_view}
 use Rattle.instance.specs.Gathering.{AreTold, EdgesTold, IsLowIf}
-use Rattle.consumer_state.specs.Views.{place_of}
+use Rattle.broker_link.specs.Places.{place_of}
 use Rattle.instance.proofs.Passing.{passes_on, comes_on}
 use Rattle.consumer_state.proofs.Fixing.{has_part_later}
 use Rattle.instance.proofs.Resetting.{told_more, edges_told_more, has_at}

@@ -1,10 +1,10 @@
 use Rattle.std.proofs.Common.{◌≡◌, take, map, length}
 use Rattle.std.specs.List.{All}
-use Rattle.model.specs.Log.{IsLog}
+use Rattle.model.specs.state.Log.{IsLog}
 use Rattle.broker_link.specs.Fetching.{edge_view}
 use Rattle.instance.specs.Gathering.{AreTold, EdgesTold, IsLowIf}
 use Rattle.instance.specs.Passing.{Passes}
-use Rattle.consumer_state.specs.Views.{place_of}
+use Rattle.broker_link.specs.Places.{place_of}
 use Rattle.instance.proofs.resets.tell_edges.Given as goal
 
 abbrev pub invariant-loop-i : goal.invariant-loop-i

@@ -1,6 +1,6 @@
 use Rattle.std.proofs.Common.{◌≡◌, length, List, arith}
-use Rattle.model.specs.Walk.{Lot, unwalked}
-use Rattle.instance.specs.Lots.{lots_of, rule_of, seen}
+use Rattle.model.specs.step.Walk.{Lot, unwalked}
+use Rattle.instance.specs.Walk.{lots_of, rule_of, seen}
 use Rattle.instance.proofs.Walking.{length-lots_of, round}
 use Rattle.instance.proofs.walk.go_round.Goals as goal
 

@@ -1,4 +1,4 @@
-use Rattle.model.specs.Connections.{IsConnection}
+use Rattle.model.specs.history.Connections.{IsConnection}
 use Rattle.model.proofs.ConnectionLemmas.{parts_more}
 use Rattle.model.proofs.connections.connections_follow.Goals as goal
 

@@ -1,4 +1,4 @@
-use Rattle.model.specs.World.{nobody}
+use Rattle.model.specs.state.World.{nobody}
 use Rattle.model.proofs.Stored.{stored_is_shown}
 use Rattle.model.proofs.produce.stored_is_shown.Goals as goal
 

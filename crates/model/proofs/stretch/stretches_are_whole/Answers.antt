@@ -1,5 +1,5 @@
 use Rattle.model.proofs.Stretches.{histories_cut, stretch_law}
-use Rattle.model.specs.World.{nobody}
+use Rattle.model.specs.state.World.{nobody}
 use Rattle.model.proofs.stretch.stretches_are_whole.Goals as goal
 
 pub returns : goal.returns

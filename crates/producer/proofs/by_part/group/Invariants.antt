@@ -1,7 +1,7 @@
 use Rattle.std.proofs.Common.{◌≡◌, [], map, length}
 use Rattle.std.specs.Prelude.{All, reverse}
 use Rattle.rest_calls.specs.Views.{NamesPartition}
-use Rattle.producer.specs.Grouped.{grouped}
+use Rattle.producer.specs.Groups.{grouped}
 use Rattle.producer.specs.Payloads.{payload_of}
 use Rattle.producer.proofs.by_part.group.Given as goal
 

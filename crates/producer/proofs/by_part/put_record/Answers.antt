@@ -1,7 +1,7 @@
 use Rattle.std.proofs.Common.{◌≡◌, ◌∙◌, ◌++◌, ◌∷◌, [], ap, sym, List, Some, None}
 use Rattle.std.specs.Prelude.{◌==◌, nat_abs, slice_set}
 use Rattle.std.specs.List.{position}
-use Rattle.model.specs.Entry.{Payload}
+use Rattle.model.specs.state.Entry.{Payload}
 use Rattle.broker_link.specs.declared.link.NewRecord.{NewRecord}
 use Rattle.broker_link.specs.declared.link.PartRecords.{PartRecords}
 use Rattle.producer.proofs.Places.{is_first, part_some, part_none}

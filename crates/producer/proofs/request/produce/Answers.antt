@@ -1,12 +1,13 @@
 use Rattle.std.proofs.Common.{◌≡◌, List, map, ap, sym, ◌∙◌, Some, true, false, inl}
 use Rattle.broker_link.proofs.Going.{once_behind}
-use Rattle.model.specs.Log.{Log}
+use Rattle.model.specs.state.Log.{Log}
 use Rattle.rest_calls.specs.declared.call.Row.{Row}
-use Rattle.model.specs.Produced.{Answered, Unknown}
-use Rattle.producer.specs.Counted.{are_within, IsCount}
-use Rattle.producer.specs.Grouped.{placed_of}
+use Rattle.model.specs.step.Produced.{Answered, Unknown}
+use Rattle.broker_link.specs.Count.{IsCount}
+use Rattle.producer.specs.Parts.{are_within}
+use Rattle.rest_replies.specs.Answer.{placed_of}
 use Rattle.producer.specs.Payloads.{number_in, payload_of}
-use Rattle.producer.specs.declared.told.Told.{Told}
+use Rattle.rest_replies.specs.declared.answer.Told.{Told}
 use Rattle.producer.proofs.Ends.{ends_answered, ends_unknown_topic, ends_unknown_partition, ends_failed, all_stored}
 use Rattle.producer.proofs.request.produce.Goals as goal
 
@@ -32,7 +33,7 @@ pub returns-in-Ok-clause-ends : goal.returns-in-Ok-clause-ends
 returns-in-Ok-clause-ends g c = λ tells is.
     let a : Log = (g.L.Link.stand c.args.link.now).log in
     let m : Log = (g.L.Link.stand c.count_parts.new.link).log in
-    let b : Log = (g.L.Link.stand c.store.new.link).log in
+    let b : Log = (g.L.Link.stand c.send_parts.new.link).log in
     let read = c.count_parts.ensures.goes in
     let keeps = read.goes.keeps tells in
     let told_still = read.goes.telling tells in
@@ -47,7 +48,7 @@ pub returns-in-Ok-clause-good : goal.returns-in-Ok-clause-good
 returns-in-Ok-clause-good g c = λ plain tells is.
     let a : Log = (g.L.Link.stand c.args.link.now).log in
     let m : Log = (g.L.Link.stand c.count_parts.new.link).log in
-    let b : Log = (g.L.Link.stand c.store.new.link).log in
+    let b : Log = (g.L.Link.stand c.send_parts.new.link).log in
     let read = c.count_parts.ensures.goes in
     let keeps = read.goes.keeps tells in
     let told_still = read.goes.telling tells in
@@ -57,11 +58,11 @@ returns-in-Ok-clause-good g c = λ plain tells is.
     let whose : map (λ (t : Told). t.partition) c.in-Ok.told ≡ map number_in c.args.batch.rows = c.in-Ok.ensures.whose in
     all_stored m c.args.topic.now c.in-Ok-Some.count c.in-Ok.told c.args.batch.rows count.1 (c.in-Ok.ensures.lacked (read.goes.plainly plain) told_still) whose inside
 
-pub returns-in-Err-store-clause-ends : goal.returns-in-Err-store-clause-ends
-returns-in-Err-store-clause-ends g c = λ tells is.
+pub returns-in-Err-send_parts-clause-ends : goal.returns-in-Err-send_parts-clause-ends
+returns-in-Err-send_parts-clause-ends g c = λ tells is.
     let a : Log = (g.L.Link.stand c.args.link.now).log in
     let m : Log = (g.L.Link.stand c.count_parts.new.link).log in
-    let b : Log = (g.L.Link.stand c.store.new.link).log in
+    let b : Log = (g.L.Link.stand c.send_parts.new.link).log in
     let read = c.count_parts.ensures.goes in
     let keeps = read.goes.keeps tells in
     let told_still = read.goes.telling tells in
@@ -69,9 +70,9 @@ returns-in-Err-store-clause-ends g c = λ tells is.
     let rows : c.as_slice.result.now ≡ c.args.batch.rows = c.as_slice.ensures in
     let inside : are_within c.in-Ok-Some.count c.args.batch.rows ≡ true = ap (λ (rs : List Row). are_within c.in-Ok-Some.count rs) (sym rows) ∙ (sym c.are_within.ensures ∙ c.if-not-are_within.false) in
     let unknown : Unknown m b c.args.topic.now (map payload_of c.args.batch.rows) =
-    c.in-Err-store.ensures.unknown told_still in
-    ends_failed a m b c.args.topic.now c.args.batch c.in-Ok-Some.count ((g.L.Link.stand c.count_parts.new.link).counts) ((g.L.Link.stand c.store.new.link).counts) c.in-Err-store.e _ keeps (read.none tells) count inside
-    c.requires.named unknown c.in-Err-store.ensures.goes.answers.cause c.failed-in-Err-store.ensures.reply
+    c.in-Err-send_parts.ensures.unknown told_still in
+    ends_failed a m b c.args.topic.now c.args.batch c.in-Ok-Some.count ((g.L.Link.stand c.count_parts.new.link).counts) ((g.L.Link.stand c.send_parts.new.link).counts) c.in-Err-send_parts.e _ keeps (read.none tells) count inside
+    c.requires.named unknown c.in-Err-send_parts.ensures.goes.answers.cause c.failed-in-Err-send_parts.ensures.reply
 
 pub returns-in-Ok-None-clause-asked : goal.returns-in-Ok-None-clause-asked
 returns-in-Ok-None-clause-asked g c = let read = c.count_parts.ensures.goes in inl read.asked
@@ -85,9 +86,9 @@ returns-then-not-are_within-clause-asked g c = let read = c.count_parts.ensures.
 pub returns-in-Ok-clause-asked : goal.returns-in-Ok-clause-asked
 returns-in-Ok-clause-asked g c =
     let read = c.count_parts.ensures.goes in
-    once_behind c.args.now (g.L.Link.stand c.args.link.now).produces (g.L.Link.stand c.count_parts.new.link).produces (g.L.Link.stand c.store.new.link).produces read.asked c.store.ensures.asked
+    once_behind c.args.now (g.L.Link.stand c.args.link.now).produces (g.L.Link.stand c.count_parts.new.link).produces (g.L.Link.stand c.send_parts.new.link).produces read.asked c.send_parts.ensures.asked
 
-pub returns-in-Err-store-clause-asked : goal.returns-in-Err-store-clause-asked
-returns-in-Err-store-clause-asked g c =
+pub returns-in-Err-send_parts-clause-asked : goal.returns-in-Err-send_parts-clause-asked
+returns-in-Err-send_parts-clause-asked g c =
     let read = c.count_parts.ensures.goes in
-    once_behind c.args.now (g.L.Link.stand c.args.link.now).produces (g.L.Link.stand c.count_parts.new.link).produces (g.L.Link.stand c.store.new.link).produces read.asked c.store.ensures.asked
+    once_behind c.args.now (g.L.Link.stand c.args.link.now).produces (g.L.Link.stand c.count_parts.new.link).produces (g.L.Link.stand c.send_parts.new.link).produces read.asked c.send_parts.ensures.asked

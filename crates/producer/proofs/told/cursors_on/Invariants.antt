@@ -1,5 +1,5 @@
 use Rattle.std.proofs.Common.{◌≡◌, take, map}
-use Rattle.producer.specs.Grouped.{cursor_of}
+use Rattle.producer.specs.Groups.{cursor_of}
 use Rattle.producer.proofs.told.cursors_on.Given as goal
 
 abbrev pub invariant-loop-one : goal.invariant-loop-one

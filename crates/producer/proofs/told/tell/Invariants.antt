@@ -1,5 +1,5 @@
 use Rattle.std.proofs.Common.{◌≡◌, ◌++◌, drop, map}
-use Rattle.producer.specs.Grouped.{cursor_of, told_by}
+use Rattle.producer.specs.Groups.{cursor_of, told_by}
 use Rattle.producer.proofs.told.tell.Given as goal
 
 abbrev pub invariant-loop-number : goal.invariant-loop-number

@@ -5,7 +5,7 @@ use Rattle.http_conn.specs.declared.request.ConnNo.TheVariants.{WriteFault, Read
 use Rattle.http_conn.specs.Told.{Comes, Conn}
 use Rattle.http_conn.specs.Stream.Ending.{End, CutShort, BadPlace}
 use Rattle.rest_codes.specs.Response.{response_of}
-use Rattle.proxy_cli.specs.Turn.{CutAt}
+use Rattle.proxy_cli.specs.Exchange.{CutAt}
 use Rattle.proxy_cli.proofs.Turning.{cut_reply, cut_refusal, failed_read}
 use Rattle.proxy_cli.proofs.Wants.{nothing_appended}
 use Rattle.proxy_cli.proofs.session.serve_one.Goals as goal

@@ -17,6 +17,12 @@ returns-in-Err-clause-serves g c = λ known input told.
     (progress_start g.S.Source.left g.S.Source.asked c.args.source.now (ExchangesAll g.L.Link.stand g.C.Clock.tells g.C.Clock.hand c.args.desk.now c.args.clock.now c.args.desk.now c.args.clock.now) input (g.K.Sink.held c.args.sink.now)
     (exchanges_none g.L.Link.stand g.C.Clock.tells g.C.Clock.hand c.args.desk.now c.args.clock.now) told)
 
+pub returns-in-Err-new-clause-serves : goal.returns-in-Err-new-clause-serves
+returns-in-Err-new-clause-serves g c = λ known input told.
+    progress_starved g.S.Source.left g.S.Source.asked c.args.source.now c.args.source.now _ input _ _ _ _
+    (progress_start g.S.Source.left g.S.Source.asked c.args.source.now (ExchangesAll g.L.Link.stand g.C.Clock.tells g.C.Clock.hand c.args.desk.now c.args.clock.now c.args.desk.now c.args.clock.now) input (g.K.Sink.held c.args.sink.now)
+    (exchanges_none g.L.Link.stand g.C.Clock.tells g.C.Clock.hand c.args.desk.now c.args.clock.now) told)
+
 pub loop-count-init : goal.loop-count-init
 loop-count-init g c = record {
   goes = (refl, goes_nowhere (g.L.Link.stand c.args.desk.now.shard.link), λ ticks. ticks);

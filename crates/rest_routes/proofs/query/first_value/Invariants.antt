@@ -1,12 +1,11 @@
 use Rattle.std.proofs.Common.{◌≡◌, length}
-use denote.Text.{Utf8}
-use denote.Shadow.{shadow}
-use Rattle.rest_routes.specs.Query.{first_value, pieces_of}
+use Rattle.form_urlencoded.specs.Form.{raw_pairs}
+use Rattle.form_urlencoded.specs.Parse.{raw_pairs_left}
+use Rattle.rest_routes.specs.Query.{first_value}
 use Rattle.rest_routes.proofs.query.first_value.Given as goal
 
-abbrev pub invariant-loop-field : goal.invariant-loop-field
-invariant-loop-field l =
-    shadow (Utf8 l.rest) × (first_value l.name (pieces_of l.rest) ≡ first_value l.name (pieces_of l.query))
+abbrev pub invariant-loop-found : goal.invariant-loop-found
+invariant-loop-found l = first_value l.name (raw_pairs_left l.fields) ≡ first_value l.name (raw_pairs l.query)
 
-abbrev pub decreases-loop-field : goal.decreases-loop-field
-decreases-loop-field l = length l.rest
+abbrev pub decreases-loop-found : goal.decreases-loop-found
+decreases-loop-found l = length (raw_pairs_left l.fields)

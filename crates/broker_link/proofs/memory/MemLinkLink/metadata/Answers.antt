@@ -1,6 +1,6 @@
 use Rattle.std.proofs.Common.{subst, sym, List, ℕ, Bor}
 use Rattle.std.specs.Prelude.{All, option_map, Option}
-use Rattle.model.specs.Log.{Log, Topic, shape_of}
+use Rattle.model.specs.state.Log.{Log, Topic, shape_of}
 use Rattle.broker_link.specs.Made.{ArePlans}
 use Rattle.broker_link.specs.Metadata.{IsMetadata}
 use Rattle.broker_link.specs.Stored.{log_of, log_with}

@@ -1,5 +1,5 @@
 use Rattle.std.proofs.Common.{◌≡◌, ◌∙◌, ◌++◌, List, ap}
-use Rattle.model.specs.Log.{Part}
+use Rattle.model.specs.state.Log.{Part}
 use Rattle.broker_link.specs.Stored.{appended, part_of}
 use Rattle.broker_link.specs.declared.link.NewRecord.{NewRecord}
 use Rattle.broker_link.proofs.Numbered.{appended_is}

@@ -2,7 +2,7 @@ use mir.Val.{SFits}
 use Rattle.std.proofs.Common.{rules, refl, to_z, of_z, w32, ◌≡◌, ◌∙◌, ℕ, List, nat_abs, length, ap, sym, arith}
 use Rattle.std.specs.Prelude.{slice_index_or}
 use Rattle.std.proofs.lemmas.Int.{to_z-of_z}
-use Rattle.model.specs.Log.{Topic, Part, parts_in}
+use Rattle.model.specs.state.Log.{Topic, Part, parts_in}
 use Rattle.std.proofs.lemmas.Option.{get_or_from_slice_get}
 use Rattle.broker_link.specs.Stored.{part_of}
 use Rattle.broker_link.proofs.Puts.{IsFirst, parts_in_first, no_part}

@@ -3,7 +3,7 @@ use Rattle.std.specs.Prelude.{slice_get, slice_set}
 use Rattle.std.proofs.lemmas.Int.{to_z-of_z, to_z_pos}
 use Rattle.std.proofs.lemmas.Option.{slice_get-get_or}
 use mir.Val.{SFits}
-use Rattle.model.specs.Log.{Topic, Part, parts_in}
+use Rattle.model.specs.state.Log.{Topic, Part, parts_in}
 use Rattle.broker_link.proofs.Puts.{IsFirst, parts_in_first, no_part, get_or_any, with_records}
 use Rattle.broker_link.proofs.Answered.{first_from_position, none_named, put_none, put_some}
 use Rattle.broker_link.proofs.topics.MemTopics.put_part.Goals as goal

@@ -1,6 +1,6 @@
 use Rattle.std.proofs.Common.{◌+◌, List, take, [], sym, subst, arith}
 use Rattle.std.proofs.lemmas.List.{take_all}
-use Rattle.model.specs.Log.{Log, Topic}
+use Rattle.model.specs.state.Log.{Log, Topic}
 use Rattle.broker_link.specs.Stored.{ArePut, SomePut, log_of}
 use Rattle.broker_link.specs.declared.link.PartRecords.{PartRecords}
 use Rattle.broker_link.proofs.topics.MemTopics.put_parts.Goals as goal

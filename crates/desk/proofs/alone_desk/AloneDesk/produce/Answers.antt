@@ -1,9 +1,9 @@
-use Rattle.desk.specs.Stepping.{never}
+use Rattle.desk.specs.Step.{no_expiry}
 use Rattle.desk.specs.Runs.{stood}
 use Rattle.std.proofs.Common.{◌∙◌, ap, sym, refl, cond, Bool}
 use Rattle.std.specs.Prelude.{option_map, is_none}
 use Rattle.gate_io.specs.Clocks.{Hand, after_read, after_pause}
-use Rattle.model.specs.Entry.Call.{Produce}
+use Rattle.model.specs.state.Entry.Call.{Produce}
 use Rattle.rest_calls.specs.Views.{batch_of}
 use Rattle.rest_calls.specs.Responses.{response_in}
 use Rattle.desk.specs.Shelf.{world_in}
@@ -21,10 +21,10 @@ returns-in-Some-clause-answered g c = λ told log.
     (λ ticks. c.now_ms-now.ensures.moment ticks ∙ ap (λ (h : Hand). h.now) (c.now_ms-now.ensures.hand ticks))
     (λ ticks. c.now_ms-now.ensures.hand ticks ∙ ap (λ (b : Bool). cond b (after_pause 10 (after_read (g.C.Clock.hand c.args.clock.now))) (after_read (g.C.Clock.hand c.args.clock.now))) (sym (ap is_none c.in-Some.is)))
     refl (λ x asked none step. produce_looks c.args.topic.now (batch_of c.args.batch) (world_in old.shard.instances old.shard.last) (g.L.Link.stand old.shard.link).log x (g.L.Link.stand new.link).log (world_in new.instances new.last) asked none step) told log in
-    looked_done never 0 old.shard.advertise (g.L.Link.stand old.shard.link).plain (g.L.Link.stand old.shard.link).plain (g.C.Clock.tells c.args.clock.now) (g.C.Clock.tells c.args.clock.now) (Produce c.args.topic.now (batch_of c.args.batch))
+    looked_done no_expiry 0 old.shard.advertise (g.L.Link.stand old.shard.link).plain (g.L.Link.stand old.shard.link).plain (g.C.Clock.tells c.args.clock.now) (g.C.Clock.tells c.args.clock.now) (Produce c.args.topic.now (batch_of c.args.batch))
     (stood (world_in old.shard.instances old.shard.last) (g.L.Link.stand old.shard.link) (g.C.Clock.hand c.args.clock.now))
     (stood (world_in old.shard.instances old.shard.last) (g.L.Link.stand old.shard.link) (g.C.Clock.hand c.args.clock.now))
     (stood (world_in new.instances new.last) (g.L.Link.stand new.link) (g.C.Clock.hand c.now_ms-now.new.self))
     0 (option_map response_in c.produce-reply.result.reply) (response_in c.in-Some.reply) (λ p. p) (λ t. t)
-    (looked_none never 0 (g.L.Link.stand old.shard.link).plain (g.C.Clock.tells c.args.clock.now) (Produce c.args.topic.now (batch_of c.args.batch)) (stood (world_in old.shard.instances old.shard.last) (g.L.Link.stand old.shard.link) (g.C.Clock.hand c.args.clock.now)))
+    (looked_none no_expiry 0 (g.L.Link.stand old.shard.link).plain (g.C.Clock.tells c.args.clock.now) (Produce c.args.topic.now (batch_of c.args.batch)) (stood (world_in old.shard.instances old.shard.last) (g.L.Link.stand old.shard.link) (g.C.Clock.hand c.args.clock.now)))
     turned (ap (option_map response_in) c.in-Some.is)

@@ -2,7 +2,7 @@ use Rattle.rest_calls.specs.Views.{asked_of}
 use Rattle.instance.specs.Views.{events_in, said_in}
 use Rattle.instance.specs.declared.event.Outcome.{Outcome}
 use Rattle.desk.specs.Consumers.{AreKeyed, AreSame, AreSound, Puts, live_under}
-use Rattle.desk.specs.Doing.{Does}
+use Rattle.desk.specs.Action.{Does}
 use Rattle.desk.specs.Keys.{consumer_key}
 use Rattle.desk.proofs.ConsumersLemmas.{whose_under, keyed_does, sound_does, keyed_same, sound_same, if_either}
 use Rattle.desk.proofs.consumers.Consumers.act.Goals as goal

@@ -1,5 +1,5 @@
 use Rattle.std.proofs.Common.{◌∙◌, subst, sym, Some, None}
-use Rattle.model.specs.World.{Key}
+use Rattle.model.specs.state.World.{Key}
 use Rattle.rest_calls.specs.Views.{asked_of}
 use Rattle.instance.specs.Views.{events_in}
 use Rattle.desk.specs.Consumers.{Puts}

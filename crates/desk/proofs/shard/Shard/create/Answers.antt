@@ -1,11 +1,11 @@
 use Rattle.std.proofs.Common.{◌≡◌, ◌∙◌, ℕ, List, subst, sym, ap, refl, None, Some, Option, true}
 use Rattle.std.specs.Prelude.{option_map}
-use Rattle.model.specs.World.{Key, Settings, Consumer, IsConsumer, fresh}
-use Rattle.model.specs.Entry.{Act, Call}
-use Rattle.model.specs.Entry.Call.{Of}
+use Rattle.model.specs.state.World.{Key, Settings, Consumer, IsConsumer, fresh}
+use Rattle.model.specs.state.Entry.{Act, Call}
+use Rattle.model.specs.state.Entry.Call.{Of}
 use Rattle.rest_calls.specs.Views.{asked_of, key_in}
 use Rattle.instance.specs.Views.{Live}
-use Rattle.consumer_state.specs.Making.{SaysMade}
+use Rattle.rest_replies.specs.Creation.{SaysMade}
 use Rattle.desk.specs.Consumers.{Puts}
 use Rattle.desk.specs.Keys.{consumer_key}
 use Rattle.desk.specs.Shelf.{consumer_in, is_create_call}

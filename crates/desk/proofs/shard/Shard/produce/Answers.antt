@@ -1,5 +1,5 @@
 use Rattle.std.proofs.Common.{refl, ap, Some}
-use Rattle.model.specs.Log.{IsLog}
+use Rattle.model.specs.state.Log.{IsLog}
 use Rattle.rest_calls.specs.Views.{batch_of, givens_of}
 use Rattle.desk.proofs.Producing.{produce_step, answer_of}
 use Rattle.desk.proofs.shard.Shard.produce.Goals as goal

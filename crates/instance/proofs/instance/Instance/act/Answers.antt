@@ -1,7 +1,9 @@
-use Rattle.std.proofs.Common.{ap, refl}
-use Rattle.model.specs.World.{Key}
+use Rattle.std.proofs.Common.{ap, map, refl}
+use Rattle.std.specs.Prelude.{option_map}
+use Rattle.model.specs.state.World.{Key}
 use Rattle.broker_link.proofs.Going.{goes_nowhere}
-use Rattle.instance.specs.Views.{Live}
+use Rattle.rest_calls.specs.Responses.{response_in}
+use Rattle.instance.specs.Views.{Live, event_of}
 use Rattle.instance.proofs.Handing.{no_look}
 use Rattle.instance.proofs.Telling.{told_seen}
 use Rattle.instance.proofs.Wanting.{never_by_topics, same}
@@ -15,12 +17,12 @@ returns-in_default g c =
     record {
       acts = λ advertise act is.
           told_seen advertise c.args.call.now c.self.inside.consumer key c.args.self.now c.self.view_is c.args.now c.args.round act is (g.L.Link.stand c.args.link.now).tells (g.L.Link.stand c.args.link.now).plain (g.L.Link.stand c.args.link.now).counts a
-          c.told.result _ _ c.answered-in_default.ensures.events c.answered-in_default.ensures.said c.in_default.not-Assign c.in_default.not-Records c.told.ensures.says;
+          c.told.result _ _ (ap (map event_of) c.of_reply-in_default.ensures.events) (ap (option_map response_in) c.of_reply-in_default.ensures.reply) c.in_default.not-Assign c.in_default.not-Records c.told.ensures.says;
       handed = λ timeout bound is. absurd (no_look c.args.call.now c.args.self.now.key timeout bound is c.in_default.not-Records);
       key = ap (λ (l : Live). l.key) c.self.view_is;
       unsubscribed = never_by_topics c.self.inside.consumer key c.args.self.now c.self.view_is;
-      waits = λ none. absurd (cc (none, c.answered-in_default.ensures.some));
-      looks = λ none. absurd (cc (none, c.answered-in_default.ensures.some));
+      waits = λ none. absurd (cc (none, c.of_reply-in_default.ensures.reply));
+      looks = λ none. absurd (cc (none, c.of_reply-in_default.ensures.reply));
       sound = record { order = sound.order; low = sound.low; names = sound.names };
       consults = record { goes = goes_nowhere (g.L.Link.stand c.args.link.now); commits = λ t. same a; asked = refl };
     }

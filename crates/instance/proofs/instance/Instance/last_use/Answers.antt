@@ -1,5 +1,5 @@
 use Rattle.std.proofs.Common.{subst}
-use Rattle.model.specs.World.{IsConsumer}
+use Rattle.model.specs.state.World.{IsConsumer}
 use Rattle.instance.specs.Views.{Live}
 use Rattle.instance.proofs.instance.Instance.last_use.Goals as goal
 

@@ -3,12 +3,12 @@ use Rattle.std.specs.List.{All}
 use Rattle.std.proofs.lemmas.Grind.{common_steps}
 use Rattle.std.proofs.lemmas.List.{drop_all, length-map}
 use Rattle.std.proofs.lemmas.List.Elements.{All-push}
-use Rattle.model.specs.Log.{TopicPart}
-use Rattle.model.specs.Walk.{Lot, Item, Rule, Walked, bytes_of, walk_part}
+use Rattle.model.specs.state.Log.{TopicPart}
+use Rattle.model.specs.step.Walk.{Lot, Item, Rule, Walked, bytes_of, walk_part}
 use Rattle.broker_link.specs.Fetching.{row_of}
 use Rattle.broker_link.specs.declared.link.Stored.{Stored}
 use Rattle.instance.specs.declared.walk.Pick.{Pick}
-use Rattle.instance.specs.Lots.{IsPick, item_in, lot_at, lots_of, rule_of, seen}
+use Rattle.instance.specs.Walk.{IsPick, item_in, lot_at, lots_of, rule_of, seen}
 use Rattle.instance.proofs.Walking.{length-lots_of, rows_read, row_read, row_in, is_full_read, every_row_reads, stops, takes, taken_more, seen_more, bytes_more}
 use Rattle.instance.proofs.walk.Walk.part.Goals as goal
 
@@ -38,7 +38,7 @@ loop-row-preserved c =
     let walked = seen_more lots c.loop-row.self (record { picks = c.push.new.self; bytes = c.loop-row.self.bytes + c.size_of-size.result; stopped = Rattle.std.specs.Prelude.nat_le 10000 c.len.result }) p (row_of c.stored-item.result) c.len.result more refl (grind (arith, common_steps)) here in
     record {
       rest = ap (λ v. walk_part (rule_of c.args.bound) at v (drop (c.loop-row.row + 1) (lot_at lots c.args.lot).rows)) walked
-          ∙ (ap (λ rs. walk_part (rule_of c.args.bound) at (Rattle.model.specs.Walk.with_row at (row_of c.stored-item.result) (seen lots c.loop-row.self)) rs) (ap (drop (c.loop-row.row + 1)) rows)
+          ∙ (ap (λ rs. walk_part (rule_of c.args.bound) at (Rattle.model.specs.step.Walk.with_row at (row_of c.stored-item.result) (seen lots c.loop-row.self)) rs) (ap (drop (c.loop-row.row + 1)) rows)
           ∙ takes (rule_of c.args.bound) at (seen lots c.loop-row.self) _ (drop c.loop-row.row (lot_at lots c.args.lot).rows) (row_of c.stored-item.result) (drop (c.loop-row.row + 1) (map row_of items)) (ap (drop c.loop-row.row) rows ∙ left) (full ∙ c.if-is_full.false) (every_row_reads (row_of c.stored-item.result)) c.loop-row.invariant.rest);
       counted = bytes_more (map (item_in lots) c.loop-row.self.picks.items) (map (item_in lots) c.push.new.self.items) (record { at = at; row = row_of c.stored-item.result }) c.loop-row.self.bytes c.size_of-size.result taken c.loop-row.invariant.counted c.size_of-size.ensures;
       picks = subst (All (IsPick lots)) (sym more) (All-push (IsPick lots) c.loop-row.self.picks.items p c.loop-row.invariant.picks

@@ -1,7 +1,7 @@
 use Rattle.std.specs.List.{All}
 use Rattle.std.proofs.Common.{◌≡◌, drop}
-use Rattle.model.specs.Walk.{bytes_of, walk_part}
-use Rattle.instance.specs.Lots.{IsPick, lot_at, lots_of, rule_of, seen}
+use Rattle.model.specs.step.Walk.{bytes_of, walk_part}
+use Rattle.instance.specs.Walk.{IsPick, lot_at, lots_of, rule_of, seen}
 use Rattle.instance.proofs.walk.Walk.part.Given as goal
 
 -- what is left of the lot goes on as the whole would have

@@ -1,7 +1,7 @@
 use Rattle.std.specs.List.{All}
 use Rattle.std.proofs.Common.{◌≡◌, ◌-◌, drop, take}
-use Rattle.model.specs.Walk.{bytes_of, walk}
-use Rattle.instance.specs.Lots.{IsPick, lots_of, rule_of, seen}
+use Rattle.model.specs.step.Walk.{bytes_of, walk}
+use Rattle.instance.specs.Walk.{IsPick, lots_of, rule_of, seen}
 use Rattle.instance.proofs.walk.Walk.range.Given as goal
 
 -- what is left of the range goes on as the whole would have

@@ -1,6 +1,0 @@
-use Rattle.std.proofs.Common.{inl}
-use Rattle.consumer_state.proofs.Failing.{says_refused}
-use Rattle.consumer_state.proofs.failure.refused.Goals as goal
-
-pub returns-in-Ok : goal.returns-in-Ok
-returns-in-Ok c = record { says = inl (says_refused c.args.code c.in-Ok.reply c.requires c.in-Ok.ensures) }

@@ -1,0 +1,11 @@
+use Rattle.std.proofs.Common.{subst, sym}
+use Rattle.rest_replies.specs.Answer.{refusal_reply}
+use Rattle.rest_replies.specs.declared.answer.ProduceNo.{ProduceNo}
+use Rattle.rest_replies.specs.Failure.{SaysOrWant}
+use Rattle.rest_replies.proofs.offsets.no_answer.Goals as goal
+
+pub returns-in-NoTopic : goal.returns-in-NoTopic
+returns-in-NoTopic c = subst (λ (e : ProduceNo). SaysOrWant (refusal_reply e) c.refused.result) (sym c.in-NoTopic.is) c.refused.ensures.says
+
+pub returns-in-NoPartition : goal.returns-in-NoPartition
+returns-in-NoPartition c = subst (λ (e : ProduceNo). SaysOrWant (refusal_reply e) c.refused-in-NoPartition.result) (sym c.in-NoPartition.is) c.refused-in-NoPartition.ensures.says

@@ -1,0 +1,9 @@
+pub mod Failure
+pub mod Creation
+pub mod Listing
+pub mod Answer
+pub mod Offsets
+pub mod Forms
+pub mod Row
+pub mod Found
+pub mod Topics
