@@ -12,8 +12,6 @@ mod reading;
 mod script;
 mod size;
 mod tally;
-#[cfg(test)]
-mod tests;
 mod topics;
 
 pub use count::count_parts;

@@ -13,10 +13,10 @@ use std::marker::Model;
 
 #[derive(Debug, Drop)]
 pub(crate) struct Tally {
-    pub(crate) faults: u64,
-    pub(crate) refusals: u64,
+    faults: u64,
+    refusals: u64,
     sent: u64,
-    pub(crate) last_code: i16,
+    last_code: i16,
 }
 
 impl Model for Tally {

@@ -118,6 +118,3 @@ pub fn read_words(alloc: Global, words: &[String]) -> Result<Command, WordNo>
         Err(AllocError) => Err(WordNo::Want),
     }
 }
-
-#[cfg(test)]
-mod tests;

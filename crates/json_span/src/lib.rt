@@ -19,6 +19,3 @@ pub use format::Format;
 pub use json_token::{JsonNo, numbers_are_those_of_the_grammar};
 pub use reader::read;
 pub use tree::{Kind, Member, Tree};
-
-#[cfg(test)]
-mod tests;

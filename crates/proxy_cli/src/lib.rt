@@ -2,13 +2,9 @@
 #![tactic(auto)]
 
 mod answer;
-#[cfg(test)]
-mod consumer_tests;
 mod ended;
 mod program;
 mod session;
-#[cfg(test)]
-mod tests;
 
 pub use ended::{EndWhy, Ended};
 pub use program::{run, run_session};

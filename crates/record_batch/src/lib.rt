@@ -16,6 +16,3 @@ pub use first::{FirstBatch, first_batch, one_batch};
 pub use laws::offsets_of_a_batch_rise;
 pub use read::read_batches;
 pub use write::write_batch;
-
-#[cfg(test)]
-mod tests;

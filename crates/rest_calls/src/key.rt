@@ -58,6 +58,3 @@ pub fn key_of(alloc: Global, call: &Call) -> Result<Items<u8>, Want>
         Err(AllocError) => Err(Want),
     }
 }
-
-#[cfg(test)]
-mod tests;

@@ -9,8 +9,6 @@ mod key;
 mod question;
 mod reading;
 mod sent;
-#[cfg(test)]
-mod shown;
 mod unread;
 mod value;
 

@@ -61,6 +61,3 @@ pub fn call_of(alloc: Global, routes: &Routes, request: &Request) -> Result<Call
 pub fn readings_are_one()
     ensures { (request : Request) (a b : Read) → Reading request a → Reading request b → a ≡ b }
 {}
-
-#[cfg(test)]
-mod tests;

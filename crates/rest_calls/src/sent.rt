@@ -86,6 +86,3 @@ pub(crate) fn read_at(alloc: Global, place: Place, request: &Request) -> Result<
         Place::Instance(group, instance, Ask::Records) => records(alloc, group, instance, request),
     }
 }
-
-#[cfg(test)]
-mod tests;

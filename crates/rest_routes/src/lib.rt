@@ -9,8 +9,6 @@ mod place;
 mod query;
 mod route;
 mod routes;
-#[cfg(test)]
-mod sample;
 
 pub use digits::{are_digits, number_in};
 pub use media::{is_acceptable, is_supported};

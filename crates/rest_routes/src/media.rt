@@ -128,6 +128,3 @@ pub fn is_supported(place: &Place, request: &Request) -> bool
         _ => true,
     }
 }
-
-#[cfg(test)]
-mod tests;

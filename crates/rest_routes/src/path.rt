@@ -24,6 +24,3 @@ pub fn is_topic_name(name: &str) -> bool
     }
     are_name_bytes(name.as_bytes())
 }
-
-#[cfg(test)]
-mod tests;

@@ -145,6 +145,3 @@ pub fn place_of(alloc: Global, routes: &Routes, request: &Request) -> Result<Pla
         Err(AllocError) => Err(Missing::Want),
     }
 }
-
-#[cfg(test)]
-mod tests;

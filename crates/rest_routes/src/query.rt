@@ -88,6 +88,3 @@ pub fn limits_of(alloc: Global, query: &str) -> Result<Option<Limits>, AllocErro
         _ => Ok(None),
     }
 }
-
-#[cfg(test)]
-mod tests;

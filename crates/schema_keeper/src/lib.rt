@@ -4,8 +4,6 @@
 mod keeper;
 mod memory;
 mod row;
-#[cfg(test)]
-mod tests;
 
 pub use keeper::Keeper;
 pub use memory::{KeepFail, MemKeeper};

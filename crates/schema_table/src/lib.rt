@@ -5,8 +5,6 @@ mod known;
 mod load;
 mod schemas;
 mod table;
-#[cfg(test)]
-mod tests;
 
 pub use known::News;
 pub use schemas::Schemas;

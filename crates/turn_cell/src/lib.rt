@@ -10,8 +10,6 @@ mod marks;
 mod pass;
 mod rule;
 mod spare;
-#[cfg(test)]
-mod tests;
 mod turn;
 
 pub use cell::TurnCell;

@@ -18,6 +18,3 @@ pub use put::{
     put_nullable_count, put_nullable_string, put_string, put_varint, put_varlong,
 };
 pub use varint::varint_len;
-
-#[cfg(test)]
-mod tests;

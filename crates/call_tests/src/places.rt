@@ -1,0 +1,175 @@
+use crate::sample::request_of;
+use rest_routes::{Ask, Missing, Place, Routes, place_of};
+use std::alloc::{AllocError, Global};
+use std::process::Abort;
+use std::test::Fail;
+
+fn name_of(ask: Ask) -> &'static str {
+    match ask {
+        Ask::Delete => "delete",
+        Ask::Assign => "assign",
+        Ask::Assignments => "assignments",
+        Ask::Records => "records",
+    }
+}
+
+/// A place as a text, or why there is none.
+fn shown(alloc: Global, place: Result<Place, Missing>) -> Result<String, AllocError> {
+    match place {
+        Err(Missing::NotFound) => String::from_str(alloc, "none"),
+        Err(Missing::NoMethod(allow)) => format!(in alloc; "lacks {allow}"),
+        Err(Missing::Want) => String::from_str(alloc, "want"),
+        Ok(Place::Topic(topic)) => {
+            let topic = topic.as_str();
+            format!(in alloc; "topic {topic}")
+        }
+        Ok(Place::Group(group)) => {
+            let group = group.as_str();
+            format!(in alloc; "group {group}")
+        }
+        Ok(Place::Instance(group, name, ask)) => {
+            let (group, name, ask) = (group.as_str(), name.as_str(), name_of(ask));
+            format!(in alloc; "{ask} {group} {name}")
+        }
+    }
+}
+
+/// The place of such a request, as a text.
+fn told(alloc: Global, routes: &Routes, method: &str, path: &str) -> Result<String, Fail> {
+    let request = request_of(alloc, method, path, "", "", "")?;
+    Ok(shown(alloc, place_of(alloc, routes, &request))?)
+}
+
+/// Each method and path has the place beside them.
+fn places_are(rt: &impl Abort, alloc: Global, cases: &[(&str, &str, &str)]) -> Result<(), Fail> {
+    let routes = Routes::new(alloc)?;
+    for (place, (method, path, want)) in cases.iter().enumerate() {
+        let text = told(alloc, &routes, method, path)?;
+        assert_eq!(rt; text.as_str(), *want, "case {place}");
+    }
+    Ok(())
+}
+
+const PLACES: [(&str, &str, &str); 15] = [
+    ("POST", "/topics/a.b_c-9Z", "topic a.b_c-9Z"),
+    ("POST", "/topics/.", "topic ."),
+    ("POST", "/topics/..", "topic .."),
+    ("POST", "/topics/%74", "topic t"),
+    ("POST", "/topics/a%2Fb%20%c3%A9", "topic a/b \u{e9}"),
+    ("POST", "/topics/%2541", "topic %41"),
+    ("POST", "/topics/a%", "topic a%"),
+    ("POST", "/topics/a%2", "topic a%2"),
+    ("POST", "/topics/%zz+", "topic %zz+"),
+    ("POST", "/topics/%00%7f", "topic \u{0}\u{7f}"),
+    ("POST", "/consumers/g", "group g"),
+    ("DELETE", "/consumers/g/instances/c%2f1", "delete g c/1"),
+    (
+        "POST",
+        "/consumers/g/instances/c1/assignments",
+        "assign g c1",
+    ),
+    (
+        "GET",
+        "/consumers/g/instances/c1/assignments",
+        "assignments g c1",
+    ),
+    (
+        "GET",
+        "/consumers/a.b_c-9Z/instances/-/records",
+        "records a.b_c-9Z -",
+    ),
+];
+
+#[test]
+fn finds_each_place(rt: HostRuntime) -> Result<(), Fail> {
+    places_are(&rt, rt.alloc(), &PLACES)
+}
+
+// The paths of the REST proxy's reference, each with a method that none of its calls has.
+const LACKING: [(&str, &str, &str); 17] = [
+    ("POST", "/brokers", "lacks 1"),
+    ("DELETE", "/topics", "lacks 2"),
+    ("PUT", "/topics/t", "lacks 3"),
+    ("post", "/topics/t", "lacks 3"),
+    ("POST", "/topics/t/partitions", "lacks 5"),
+    ("DELETE", "/topics/t/partitions/0", "lacks 6"),
+    ("POST", "/topics/t/partitions/%30/offsets", "lacks 8"),
+    ("GET", "/consumers/g", "lacks 9"),
+    ("GET", "/consumers/g/instances/c", "lacks 10"),
+    ("DELETE", "/consumers/g/instances/c/offsets", "lacks 11"),
+    ("PUT", "/consumers/g/instances/c/subscription", "lacks 13"),
+    ("DELETE", "/consumers/g/instances/c/assignments", "lacks 16"),
+    ("GET", "/consumers/g/instances/c/positions", "lacks 18"),
+    (
+        "GET",
+        "/consumers/g/instances/c/positions/beginning",
+        "lacks 19",
+    ),
+    ("GET", "/consumers/g/instances/c/positions/end", "lacks 20"),
+    ("POST", "/consumers/g/instances/c/records", "lacks 21"),
+    ("HEAD", "/consumers/g/instances/c/records", "lacks 21"),
+];
+
+#[test]
+fn a_path_without_the_method_tells_its_first_place(rt: HostRuntime) -> Result<(), Fail> {
+    places_are(&rt, rt.alloc(), &LACKING)
+}
+
+// Places of the reference that no call stands for yet.
+const UNBUILT: [(&str, &str, &str); 14] = [
+    ("GET", "/brokers", "none"),
+    ("GET", "/topics", "none"),
+    ("GET", "/topics/t", "none"),
+    ("GET", "/topics/t/partitions", "none"),
+    ("GET", "/topics/t/partitions/0", "none"),
+    ("POST", "/topics/t/partitions/2147483647", "none"),
+    ("GET", "/topics/t/partitions/0/offsets", "none"),
+    ("POST", "/consumers/g/instances/c/offsets", "none"),
+    ("GET", "/consumers/g/instances/c/offsets", "none"),
+    ("DELETE", "/consumers/g/instances/c/subscription", "none"),
+    ("POST", "/consumers/g/instances/c/subscription", "none"),
+    ("POST", "/consumers/g/instances/c/positions", "none"),
+    (
+        "POST",
+        "/consumers/g/instances/c/positions/beginning",
+        "none",
+    ),
+    ("POST", "/consumers/g/instances/c/positions/end", "none"),
+];
+
+#[test]
+fn a_place_that_is_not_built_is_none(rt: HostRuntime) -> Result<(), Fail> {
+    places_are(&rt, rt.alloc(), &UNBUILT)
+}
+
+const NOWHERE: [(&str, &str, &str); 24] = [
+    ("POST", "", "none"),
+    ("POST", "/", "none"),
+    ("POST", "/topic", "none"),
+    ("POST", "/topics/", "none"),
+    ("POST", "/topics/t/", "none"),
+    ("POST", "/Topics/t", "none"),
+    ("POST", "topics/t", "none"),
+    ("POST", "/%74opics/t", "none"),
+    ("PUT", "/topics//partitions", "none"),
+    ("PUT", "/topics/%ff", "none"),
+    ("PUT", "/topics/%c3", "none"),
+    ("PUT", "/topics/%ed%a0%80", "none"),
+    ("PUT", "/topics/t/partitions/x", "none"),
+    ("PUT", "/topics/t/partitions/-1", "none"),
+    ("PUT", "/topics/t/partitions/2147483648", "none"),
+    ("PUT", "/topics/t/partitions/18446744073709551616", "none"),
+    ("PUT", "/consumers/", "none"),
+    ("PUT", "/consumers/g/", "none"),
+    ("PUT", "/consumers/a%1f", "none"),
+    ("PUT", "/consumers/a%7F", "none"),
+    ("PUT", "/consumers/g/instances/", "none"),
+    ("PUT", "/consumers//instances/c1", "none"),
+    ("PUT", "/consumers/g/instances/%00/records", "none"),
+    ("PUT", "/consumers/g/x/instances/c1/records", "none"),
+];
+
+#[test]
+fn a_path_that_is_no_path_of_the_gateway_is_none(rt: HostRuntime) -> Result<(), Fail> {
+    places_are(&rt, rt.alloc(), &NOWHERE)
+}

@@ -1,0 +1,9 @@
+//! The tests of `command_words` and `proxy_cli`, in a crate of their own, so that each of those is proved once.
+#![tactic(auto)]
+
+#[cfg(test)]
+mod consumers;
+#[cfg(test)]
+mod sessions;
+#[cfg(test)]
+mod words;
