@@ -9,18 +9,18 @@ use Rattle.model.specs.texts.Texts.{response_of}
 use Rattle.broker_link.specs.Stands.{Consults, Stand}
 use Rattle.rest_calls.specs.Responses.{response_in}
 use Rattle.rest_codes.specs.declared.response.Reply.{Reply as CodeReply}
-use Rattle.consumer_state.specs.Assign.{forms}
+use Rattle.rest_replies.specs.Forms.{forms}
 use Rattle.instance.specs.Views.{event_of}
 use Rattle.topic_reads.specs.Asked.{Asks}
 use Rattle.desk.specs.Shelf.{world_in, AreSound}
-use Rattle.desk.specs.Step.{StepsSo, never, noted}
+use Rattle.desk.specs.Step.{StepsSo, no_expiry, noted}
 use Rattle.desk.specs.declared.consumers.Consumers.{Consumers}
 use Rattle.desk.specs.declared.entry.Entry.{Entry as CodeEntry}
 use Rattle.desk.proofs.Steps.{none_expired, forms_from, caused_by, there_later}
 
 pub ask_step : (advertise : List ℕ) (caller now : ℕ) (question : Question) (a b : Stand) (xs : Consumers) (last moment last2 : ℕ) (e : CodeEntry) (said : CodeReply)
     → Consults a b → Asks question a said b → AreSound xs → e.caller ≡ caller → e.moment ≡ moment → e.events ≡ [] → (noted e).call ≡ Some (Ask question) → e.round ≡ Some 0 → e.reply ≡ Some said
-    → moment ≡ max now last → moment < 2 ^ 64 → last2 ≡ moment → StepsSo never advertise a (world_in xs last) (noted e) b (world_in xs last2)
+    → moment ≡ max now last → moment < 2 ^ 64 → last2 ≡ moment → StepsSo no_expiry advertise a (world_in xs last) (noted e) b (world_in xs last2)
 ask_step advertise caller now question a b xs last moment last2 e said went one sound whose when none asked at says latest low still =
     let goes = went.goes in
     record {
@@ -42,7 +42,7 @@ ask_step advertise caller now question a b xs last moment last2 e said went one 
               forms = forms_from forms (λ table format bytes. refl);
               later = omega (arith, latest);
               last = still;
-              does = inl (record { expired = none_expired moment (world_in xs last) low; does = (refl, (one.answered told log, (went.none told, (went.commits told, λ key. refl)))) });
+              does = inl (record { expired = none_expired moment (world_in xs last) low; does = (refl, one.answered told log, went.none told, went.commits told, λ key. refl) });
             };
             quiet = refl;
             caused = λ lower. caused_by a.counts b.counts (world_in xs last) entry one.counted refl lower;

@@ -189,13 +189,13 @@ produce_looks topic batch w a e b w2 asked none step = absurd (go step.does)
         produce_replies a b topic batch does.1
 
 -- and so has a question
-pub ask_looks : (question : Question) (w : World) (a : Log) (e : Entry) (b : Log) (w2 : World) → e.call ≡ Some (Ask question) → e.reply ≡ None → Step never w a e b w2 → EndsIn e.events e.turn.round
+pub ask_looks : (question : Question) (w : World) (a : Log) (e : Entry) (b : Log) (w2 : World) → e.call ≡ Some (Ask question) → e.reply ≡ None → Step no_expiry w a e b w2 → EndsIn e.events e.turn.round
 ask_looks question w a e b w2 asked none step = absurd (go step.does)
   where
-    go : Whole never w a e b w2 ⊎ Starved w a e b w2 → ⊥
+    go : Whole no_expiry w a e b w2 ⊎ Starved w a e b w2 → ⊥
     go (inr starved) = absurd (cc (none, starved.reply))
     go (inl whole) =
         let does : Does e.moment e.turn (Some (Ask question)) a e.events None b (left e.expired w) w2.at =
         subst (λ (r : Option Reply). Does e.moment e.turn (Some (Ask question)) a e.events r b (left e.expired w) w2.at) none
         (subst (λ (c : Option Call). Does e.moment e.turn c a e.events e.reply b (left e.expired w) w2.at) asked whole.does) in
-        cc does.1.1.0
+        cc does.1.1

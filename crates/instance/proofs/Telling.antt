@@ -30,7 +30,8 @@ use Rattle.consumer_state.specs.Views.{consumer_of}
 use Rattle.instance.specs.Views.{Live as Seen}
 use Rattle.consumer_state.specs.declared.consumer.Consumer.{Consumer as Kept}
 use Rattle.consumer_state.proofs.Fixing.{ats_are}
-use Rattle.consumer_state.proofs.Linking.{counted_done, counts_stay}
+use Rattle.broker_link.proofs.CountedLemmas.{counted_done}
+use Rattle.consumer_state.proofs.Linking.{counts_stay}
 use Rattle.instance.proofs.Wanting.{mode_is, not_due, same, unpumped, wanting}
 
 quiet : (advertise : List ℕ) (call : Call) (key : Key) (now round : ℕ) (act : Act) → asked_of call ≡ Of key act → (tells plain : Type 0) (counts : Counts) (c : Consumer) (a : Log) (answer : Reply) (r : CodeReply)

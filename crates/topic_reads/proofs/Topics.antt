@@ -10,6 +10,7 @@ use Rattle.model.specs.state.Log.{Topic, TopicPart, Log, IsLog, Keeps, parts_in,
 use Rattle.model.specs.step.Fixed.{HasPart}
 use Rattle.model.specs.step.Step.{HasTopic, TellsParts, numbers, parts_of}
 use Rattle.model.specs.state.Entry.{PartTold}
+use Rattle.broker_link.specs.Fetching.{named_at}
 use Rattle.broker_link.specs.Metadata.{IsInfo, IsMetadata, NumberedFrom}
 use Rattle.broker_link.specs.declared.link.PartInfo.{PartInfo}
 use Rattle.broker_link.specs.declared.link.TopicInfo.{TopicInfo}
@@ -118,6 +119,15 @@ pub part_gone : (log : Log) (at : TopicPart) (number : ℤ) (parts : List PartIn
 part_gone log at number parts is numbered count none has =
     let all : 0 + length parts ≤ at.partition = part_missed parts 0 at.partition numbered (omega arith) (ap (λ (n : ℤ). part_of n parts) (sym is) ∙ none) in
     omega (arith, all, count, has)
+
+pub named_is : (s t : List ℕ) (m n : ℤ) → s ≡ t → m ≡ n → named_at s m ≡ named_at t n
+named_is s t m n e f = rw (e, f) refl
+
+-- a later log has the partition too, by whatever name
+pub has_part_still : (a m : Log) (at named : TopicPart) → named ≡ at → Keeps a m → HasPart a at → HasPart m named
+has_part_still a m at named is keeps has =
+    let here : HasPart m at = omega (arith, parts_counted a.topics m.topics at.topic keeps.shape, has) in
+    subst (λ (p : TopicPart). HasPart m p) (sym is) here
 
 -- what holds of each holds of the first, and of the one with a number
 pub first_of : {X : Type 0} (P : X → Type 0) (xs : List X) (x : X) → All P xs → slice_get xs 0 ≡ Some x → P x
