@@ -60,6 +60,7 @@ look_ends key moment turn timeout bound c a events b c2 look =
 live_looks : (code : CodeCall) (key : Key) (act : Act) → asked_of code ≡ Of key act → (moment : ℕ) (turn : Turn) (c : Consumer) (a : Log) (events : List Event) (b : Log) (c2 : Option Consumer)
     → Live key moment turn act c a events None b c2 → EndsIn events turn.round
 live_looks (call.Produce topic batch) key act is moment turn c a events b c2 live = absurd (cc is)
+live_looks (call.Ask question) key act is moment turn c a events b c2 live = absurd (cc is)
 live_looks (call.Create group name settings) key (Create s) is moment turn c a events b c2 (e, same, inl refused) = absurd (cc refused.says)
 live_looks (call.Create group name settings) key (Create s) is moment turn c a events b c2 (e, same, inr wants) = absurd (cc wants.says)
 live_looks (call.Delete group name) key Delete is moment turn c a events b c2 (e, same, inl done) = absurd (cc done.says)

@@ -136,7 +136,7 @@ impl<L: Link + Drop> AloneDesk<L> {
     ) -> Reply
         requires whose { asked_of asked.value ≡ Ask (question_of question.now) }
         ensures answered { ShardAnswers L.stand C.tells C.hand self.old.shard clock.old (Ask (question_of question.now)) (response_in result) self.new.shard clock.new }
-        ensures unnamed { self.new.unnamed ≡ self.old.unnamed }
+        ensures names_given { self.new.names_given ≡ self.old.names_given }
         ensures advertise { self.new.shard.advertise ≡ self.old.shard.advertise }
 
         ensures goes { Goes (L.stand self.old.shard.link) (L.stand self.new.shard.link) }

@@ -10,7 +10,6 @@ use rest_replies::found_reply;
 use std::alloc::Global;
 
 /// Answers a question by what the link tells when it is asked.
-
 pub fn ask<L: Link>(alloc: Global, link: &mut L, question: &Question) -> Reply
     ensures asks { Asks (question_of question.now) (L.stand link.old) result (L.stand link.new) }
     ensures consults { Consults (L.stand link.old) (L.stand link.new) }
