@@ -1,11 +1,13 @@
 -- Calls one after another.
-use Rattle.std.proofs.Common.{◌≡◌, ◌∙◌, ℕ, refl, subst, arith}
+use Rattle.std.proofs.Common.{◌≡◌, ◌∙◌, ℕ, refl, subst, arith, Result}
 use Rattle.model.specs.state.Log.{Log}
 use Rattle.model.specs.step.Fixed.{SameCommits}
+use Rattle.model.specs.step.Produced.{NoneAdded}
 use Rattle.model.proofs.Stretches.{keeps_itself, keeps_on}
 use Rattle.broker_link.specs.Causes.{Counts}
 use Rattle.broker_link.specs.Replies.{CountsKept}
-use Rattle.broker_link.specs.Stands.{Goes, IsOnceAtMost, Produces, Stand}
+use Rattle.broker_link.specs.Stands.{Consults, Goes, IsOnceAtMost, Produces, Reads, Stand}
+use Rattle.broker_link.specs.declared.link.LinkNo.{LinkNo}
 
 counts_on : (c d e : Counts) → CountsKept c d → CountsKept d e → CountsKept c e
 counts_on c d e first second = record {
@@ -45,3 +47,21 @@ goes_nowhere a = record {
 -- calls that only read are no produce calls
 pub once_behind : (now : ℕ) (p q r : Produces) → q ≡ p → IsOnceAtMost now q r → IsOnceAtMost now p r
 once_behind now p q r same once = subst (λ (x : Produces). IsOnceAtMost now x r) same once
+
+-- no call that reads, one, and some after others
+pub consults_nothing : (a : Stand) → Consults a a
+consults_nothing a = record { goes = goes_nowhere a; none = λ t. omega arith; asked = refl; commits = λ t group at. refl }
+
+pub consults_once : {T : Type 0} (a b : Stand) (r : Result T LinkNo) → Reads a b r → Consults a b
+consults_once a b r reads = record { goes = reads.goes; none = reads.none; asked = reads.asked; commits = reads.commits }
+
+pub consults_on : (a b c : Stand) → Consults a b → Consults b c → Consults a c
+consults_on a b c first second = record {
+  goes = goes_on a b c first.goes second.goes;
+  none = λ t. none_on a.log b.log c.log (first.none t) (second.none (first.goes.telling t));
+  asked = second.asked ∙ first.asked;
+  commits = λ t. same_commits_on a.log b.log c.log (first.commits t) (second.commits (first.goes.telling t));
+}
+  where
+    none_on : (x y z : Log) → NoneAdded x y → NoneAdded y z → NoneAdded x z
+    none_on x y z one two = omega (arith, one, two)

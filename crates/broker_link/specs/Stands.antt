@@ -72,3 +72,10 @@ pub record Reads {T : Type 0} (a b : Stand) (result : Result T LinkNo) : Type 0 
   pub asked : b.produces ≡ a.produces
   pub commits : a.tells → SameCommits a.log b.log
   pub answers : Answers a b result
+
+-- Calls that only read went so, one after another, whatever they answered.
+pub record Consults (a b : Stand) : Type 0 where
+  pub goes : Goes a b
+  pub none : a.tells → NoneAdded a.log b.log
+  pub asked : b.produces ≡ a.produces
+  pub commits : a.tells → SameCommits a.log b.log

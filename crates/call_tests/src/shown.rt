@@ -4,7 +4,7 @@ use crate::sample::request_of;
 use broker_link::{Edge, TopicPart};
 use gate_io::{Items, Text};
 use http_conn::Request;
-use rest_calls::{Call, Payload, Row, Settings, call_of};
+use rest_calls::{Call, Payload, Question, Row, Settings, call_of};
 use rest_codes::Reply;
 use rest_routes::Routes;
 use std::alloc::{AllocError, Global};
@@ -94,12 +94,41 @@ fn show_limit(
     out.push_str(text.as_str())
 }
 
+fn show_part(
+    alloc: Global,
+    out: &mut String,
+    kind: &str,
+    part: &TopicPart,
+) -> Result<(), AllocError> {
+    let (topic, partition) = (part.topic.as_str(), part.partition);
+    let text = format!(in alloc; "{kind} {topic}/{partition}")?;
+    out.push_str(text.as_str())
+}
+
+fn show_topic(out: &mut String, kind: &str, topic: &Text) -> Result<(), AllocError> {
+    out.push_str(kind)?;
+    out.push_str(" ")?;
+    out.push_str(topic.as_str())
+}
+
+fn show_question(alloc: Global, out: &mut String, question: &Question) -> Result<(), AllocError> {
+    match question {
+        Question::Brokers => out.push_str("brokers"),
+        Question::Topics => out.push_str("topics"),
+        Question::Topic(topic) => show_topic(out, "topic", topic),
+        Question::Partitions(topic) => show_topic(out, "partitions", topic),
+        Question::Partition(part) => show_part(alloc, out, "partition", part),
+        Question::EndOffsets(part) => show_part(alloc, out, "offsets", part),
+    }
+}
+
 fn show_call(alloc: Global, out: &mut String, call: &Call) -> Result<(), AllocError> {
     match call {
         Call::Produce { topic, batch } => {
             out.push_str(topic.as_str())?;
             show_rows(alloc, out, batch.rows.as_slice())
         }
+        Call::Ask(question) => show_question(alloc, out, question),
         Call::Create {
             group,
             name,

@@ -1,18 +1,15 @@
 -- From what one call of a link leaves to what several leave.
-use Rattle.std.proofs.Common.{◌≡◌, ℕ, ◌≤◌, refl, ap, ◌∙◌, arith, Result, Ok, Err, Some, true, false, ℤ}
+use Rattle.std.proofs.Common.{◌≡◌, refl, ◌∙◌, arith, Result, Ok, Err}
 use Rattle.std.specs.Prelude.{IfOk}
 use Rattle.model.specs.state.Log.{Log, Keeps}
 use Rattle.model.specs.step.Fixed.{SameCommits}
 use Rattle.model.specs.step.Produced.{NoneAdded}
-use Rattle.model.specs.state.Entry.{Reply}
-use Rattle.model.specs.state.Entry.Reply.{Refused, Broker, Want}
-use Rattle.model.specs.history.Legal.{is_fault, is_refusal}
+use Rattle.model.specs.state.Entry.Reply.{Refused}
 use Rattle.model.proofs.Stretches.{keeps_itself, keeps_on}
-use Rattle.gate_io.specs.Counts.{Rose}
 use Rattle.broker_link.specs.Causes.{Counts}
 use Rattle.broker_link.specs.Replies.{CountsKept, IsCounted}
+use Rattle.broker_link.proofs.CountedLemmas.{comes_on, counted_done, counted_failed as of_link}
 use Rattle.broker_link.specs.Stands.{Stand}
-use Rattle.broker_link.specs.declared.link.LinkNo.TheVariants as link
 use Rattle.consumer_state.specs.LinkCalls.{ComesOf, GoesOn, IsCaused, refusal_of}
 use Rattle.consumer_state.specs.declared.topics.AssignNo.{AssignNo}
 use Rattle.consumer_state.specs.declared.topics.AssignNo.TheVariants.{NoTopic, NoPartition, Failed}
@@ -57,61 +54,20 @@ counts_kept c d e x y = record {
 pub counts_stay : (c : Counts) → CountsKept c c
 counts_stay c = record { faults_kept = omega arith; refusals_kept = omega arith; sent_kept = omega arith; polls_kept = omega arith; beats_kept = omega arith }
 
-rose_since : (a b c : ℕ) → a ≤ b → Rose b c → Rose a c
-rose_since a b c le rose = omega (arith, le, rose)
-
 comes_since : (c d e : Counts) (no : AssignNo) → CountsKept c d → ComesOf d e no → ComesOf c e no
 comes_since c d e NoTopic kept comes = tt
 comes_since c d e NoPartition kept comes = tt
-comes_since c d e (Failed link.Fault) kept comes = rose_since c.faults d.faults e.faults kept.faults_kept comes
-comes_since c d e (Failed (link.Refused code)) kept comes = (comes.0, (rose_since c.refusals d.refusals e.refusals kept.refusals_kept comes.1.0, comes.1.1))
-comes_since c d e (Failed link.Want) kept comes = tt
+comes_since c d e (Failed no) kept comes = comes_on c d e no kept comes
 
 -- the cause of a later call is one since an earlier moment
 pub caused_since : {T : Type 0} (c d e : Counts) (result : Result T AssignNo) → CountsKept c d → IsCaused d e result → IsCaused c e result
 caused_since c d e (Ok x) kept caused = record { kept = counts_kept c d e kept caused.kept; cause = caused.cause }
 caused_since c d e (Err cause) kept caused = record { kept = counts_kept c d e kept caused.kept; cause = comes_since c d e cause kept caused.cause }
 
--- the counts of a reply
-pub counted_done : (c d : Counts) (reply : Reply) → CountsKept c d → is_fault (Some reply) ≡ false → is_refusal (Some reply) ≡ false → IsCounted c d reply
-counted_done c d reply kept no_fault no_refusal = record {
-  faults_kept = kept.faults_kept;
-  refusals_kept = kept.refusals_kept;
-  sent_kept = kept.sent_kept;
-  polls_kept = kept.polls_kept;
-  beats_kept = kept.beats_kept;
-  fault = λ e. absurd (cc (e, no_fault));
-  refusal = λ e. absurd (cc (e, no_refusal));
-  code = λ code is. absurd (no_code code is);
-}
-  where
-    no_code : (code : ℤ) → reply ≡ Broker code → ⊥
-    no_code code is = let e : is_refusal (Some reply) ≡ true = ap (λ r. is_refusal (Some r)) is in cc (e, no_refusal)
-
 pub counted_failed : (c d : Counts) (why : AssignNo) → CountsKept c d → ComesOf c d why → IsCounted c d (refusal_of why)
 counted_failed c d NoTopic kept comes = counted_done c d (Refused 40401) kept refl refl
 counted_failed c d NoPartition kept comes = counted_done c d (Refused 40402) kept refl refl
-counted_failed c d (Failed link.Want) kept comes = counted_done c d Want kept refl refl
-counted_failed c d (Failed link.Fault) kept comes = record {
-  faults_kept = kept.faults_kept;
-  refusals_kept = kept.refusals_kept;
-  sent_kept = kept.sent_kept;
-  polls_kept = kept.polls_kept;
-  beats_kept = kept.beats_kept;
-  fault = λ e. comes;
-  refusal = λ e. absurd (cc e);
-  code = λ code is. absurd (cc is);
-}
-counted_failed c d (Failed (link.Refused number)) kept comes = record {
-  faults_kept = kept.faults_kept;
-  refusals_kept = kept.refusals_kept;
-  sent_kept = kept.sent_kept;
-  polls_kept = kept.polls_kept;
-  beats_kept = kept.beats_kept;
-  fault = λ e. absurd (cc e);
-  refusal = λ e. comes.1.0;
-  code = λ code is. let same : number ≡ code = cc is in comes.1.1 ∙ same;
-}
+counted_failed c d (Failed e) kept comes = of_link c d e kept comes
 
 -- what follows from two facts of an answer's value follows of the answer
 pub ok_both : (T E : Type 0) (r : Result T E) (P Q R : T → Type 0) → ((x : T) → P x → Q x → R x) → IfOk r P → IfOk r Q → IfOk r R

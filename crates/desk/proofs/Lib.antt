@@ -1,3 +1,4 @@
+pub mod Asking
 pub mod ConsumersLemmas
 pub mod Calls
 pub mod Creating

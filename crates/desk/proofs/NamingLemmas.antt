@@ -8,6 +8,7 @@ use Rattle.rest_calls.specs.Views.{counted, entered, given_name, is_unnamed, key
 use Rattle.rest_calls.specs.Views.{asked_of, NamesPartitions}
 use Rattle.rest_calls.specs.declared.call.Batch.{Batch}
 use Rattle.rest_calls.specs.declared.call.Call.{Call as Call2}
+use Rattle.rest_calls.specs.declared.question.Question.{Question}
 use Rattle.rest_calls.specs.declared.call.Call.TheVariants as sent
 use Rattle.desk.specs.Runs.{name_text, named_so}
 
@@ -25,10 +26,11 @@ named_still call (sent.Produce topic batch) names_given is same holds = absurd (
 named_still call named names_given is same holds = tt
 
 -- any other call is of a consumer
-pub whose_is : (call : Call2) → ((topic : List ℕ) (batch : Batch) → call ≡ sent.Produce topic batch → ⊥) → (key : Key) × (act : Act) × (asked_of call ≡ Of key act)
-whose_is (sent.Produce topic batch) other = absurd (other topic batch refl)
-whose_is (sent.Create group name settings) other = (_, _, refl)
-whose_is (sent.Delete group name) other = (_, _, refl)
-whose_is (sent.Assign group name parts) other = (_, _, refl)
-whose_is (sent.Assignments group name) other = (_, _, refl)
-whose_is (sent.Records group name timeout bound) other = (_, _, refl)
+pub whose_is : (call : Call2) → ((topic : List ℕ) (batch : Batch) → call ≡ sent.Produce topic batch → ⊥) → ((question : Question) → call ≡ sent.Ask question → ⊥) → (key : Key) × (act : Act) × (asked_of call ≡ Of key act)
+whose_is (sent.Produce topic batch) other asks = absurd (other topic batch refl)
+whose_is (sent.Ask question) other asks = absurd (asks question refl)
+whose_is (sent.Create group name settings) other asks = (_, _, refl)
+whose_is (sent.Delete group name) other asks = (_, _, refl)
+whose_is (sent.Assign group name parts) other asks = (_, _, refl)
+whose_is (sent.Assignments group name) other asks = (_, _, refl)
+whose_is (sent.Records group name timeout bound) other asks = (_, _, refl)

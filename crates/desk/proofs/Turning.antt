@@ -7,9 +7,9 @@ use Rattle.gate_io.specs.Clocks.{Hand, after_read, after_pause}
 use Rattle.model.specs.state.Log.{Log, IsLog}
 use Rattle.model.specs.state.Forms.{Forms}
 use Rattle.model.specs.state.World.{Key, Consumer, World}
-use Rattle.model.specs.state.Entry.{Act, Batch, Call, Event, Reply, Entry, Turn}
+use Rattle.model.specs.state.Entry.{Act, Batch, Call, Event, Question, Reply, Entry, Turn}
 use Rattle.model.specs.state.Entry.Act.{Create, Delete, Assign, Assignments, Records}
-use Rattle.model.specs.state.Entry.Call.{Of, Produce}
+use Rattle.model.specs.state.Entry.Call.{Ask, Of, Produce}
 use Rattle.model.specs.state.Entry.Event.{Reset, Looked}
 use Rattle.model.specs.step.Acts.{Acts, Live, Gone}
 use Rattle.model.specs.step.Look.{IsLook, IsCut_off, IsWalked, LookEnds, Sends, after_events, at_most, saved_event, placed_event}
@@ -60,6 +60,7 @@ look_ends key moment turn timeout bound c a events b c2 look =
 live_looks : (code : CodeCall) (key : Key) (act : Act) → asked_of code ≡ Of key act → (moment : ℕ) (turn : Turn) (c : Consumer) (a : Log) (events : List Event) (b : Log) (c2 : Option Consumer)
     → Live key moment turn act c a events None b c2 → EndsIn events turn.round
 live_looks (call.Produce topic batch) key act is moment turn c a events b c2 live = absurd (cc is)
+live_looks (call.Ask question) key act is moment turn c a events b c2 live = absurd (cc is)
 live_looks (call.Create group name settings) key (Create s) is moment turn c a events b c2 (e, same, inl refused) = absurd (cc refused.says)
 live_looks (call.Create group name settings) key (Create s) is moment turn c a events b c2 (e, same, inr wants) = absurd (cc wants.says)
 live_looks (call.Delete group name) key Delete is moment turn c a events b c2 (e, same, inl done) = absurd (cc done.says)
@@ -187,3 +188,15 @@ produce_looks topic batch w a e b w2 asked none step = absurd (go step.does)
         subst (λ (r : Option Reply). Does e.moment e.turn (Some (Produce topic batch)) a e.events r b (left e.expired w) w2.at) none
         (subst (λ (c : Option Call). Does e.moment e.turn c a e.events e.reply b (left e.expired w) w2.at) asked whole.does) in
         produce_replies a b topic batch does.1
+
+-- and so has a question
+pub ask_looks : (question : Question) (w : World) (a : Log) (e : Entry) (b : Log) (w2 : World) → e.call ≡ Some (Ask question) → e.reply ≡ None → Step no_expiry w a e b w2 → EndsIn e.events e.turn.round
+ask_looks question w a e b w2 asked none step = absurd (go step.does)
+  where
+    go : Whole no_expiry w a e b w2 ⊎ Starved w a e b w2 → ⊥
+    go (inr starved) = absurd (cc (none, starved.reply))
+    go (inl whole) =
+        let does : Does e.moment e.turn (Some (Ask question)) a e.events None b (left e.expired w) w2.at =
+        subst (λ (r : Option Reply). Does e.moment e.turn (Some (Ask question)) a e.events r b (left e.expired w) w2.at) none
+        (subst (λ (c : Option Call). Does e.moment e.turn c a e.events e.reply b (left e.expired w) w2.at) asked whole.does) in
+        cc does.1.1

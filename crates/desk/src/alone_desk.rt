@@ -4,7 +4,8 @@ ghost use Rattle.broker_link.specs.Stands.{Goes};
 ghost use Rattle.model.specs.state.Log.{IsLog};
 ghost use Rattle.model.specs.state.World.{Key, nobody};
 ghost use Rattle.model.specs.state.Entry.{Act};
-ghost use Rattle.model.specs.state.Entry.Call.{Of, Produce};
+ghost use Rattle.model.specs.state.Entry.Call.{Ask, Of, Produce};
+ghost use Rattle.rest_calls.specs.Questions.{question_of};
 ghost use Rattle.rest_calls.specs.Responses.{response_in};
 ghost use Rattle.rest_calls.specs.Views.{asked_of, batch_of, entered, HasFewRecords, HasRecords, NamesPartition, NamesPartitions};
 ghost use Rattle.desk.specs.Shelf.{world_in};
@@ -15,7 +16,7 @@ use crate::naming::name_unnamed;
 use crate::{Entry, Shard};
 use broker_link::Link;
 use gate_io::{Clock, Text, Want};
-use rest_calls::{Batch, Call};
+use rest_calls::{Batch, Call, Question};
 use rest_codes::Reply;
 use std::alloc::Global;
 use std::snapshot::Snapshot;
@@ -125,6 +126,30 @@ impl<L: Link + Drop> AloneDesk<L> {
         }
     }
 
+    /// Answers a question, of which `asked` is the call.
+    fn ask<C: Clock>(
+        &mut self,
+        alloc: Global,
+        clock: &mut C,
+        asked: Snapshot<Call>,
+        question: &Question,
+    ) -> Reply
+        requires whose { asked_of asked.value ≡ Ask (question_of question.now) }
+        ensures answered { ShardAnswers L.stand C.tells C.hand self.old.shard clock.old (Ask (question_of question.now)) (response_in result) self.new.shard clock.new }
+        ensures names_given { self.new.names_given ≡ self.old.names_given }
+        ensures advertise { self.new.shard.advertise ≡ self.old.shard.advertise }
+
+        ensures goes { Goes (L.stand self.old.shard.link) (L.stand self.new.shard.link) }
+        ensures ticking { C.tells clock.old → C.tells clock.new }
+    {
+        let now = clock.now_ms();
+        let Entry { reply, .. } = self.shard.ask(alloc, CALLER, now, asked, question);
+        match reply {
+            Some(reply) => reply,
+            None => Reply::Want,
+        }
+    }
+
     /// Stores the records of a produce, of which `asked` is the call.
     fn produce<C: Clock>(
         &mut self,
@@ -177,6 +202,7 @@ impl<L: Link + Drop> AloneDesk<L> {
             Call::Produce { topic, batch } => {
                 self.produce(alloc, clock, asked, topic.as_str(), batch)
             }
+            Call::Ask(question) => self.ask(alloc, clock, asked, &question),
             call => self.look_until_answered(alloc, clock, &call),
         }
     }

@@ -2,8 +2,9 @@ ghost use Rattle.std.specs.Prelude.{◌≡◌, ◌<◌, ◌*◌, ◌^◌, max, �
 ghost use Rattle.broker_link.specs.Stands.{IsOnceAtMost};
 ghost use Rattle.model.specs.state.World.{Key, nobody};
 ghost use Rattle.model.specs.state.Entry.{Act};
-ghost use Rattle.model.specs.state.Entry.Call.{Of, Produce};
+ghost use Rattle.model.specs.state.Entry.Call.{Ask, Of, Produce};
 ghost use Rattle.model.specs.history.Noted.{EndsInLook};
+ghost use Rattle.rest_calls.specs.Questions.{question_of};
 ghost use Rattle.rest_calls.specs.Responses.{response_in};
 ghost use Rattle.rest_calls.specs.Views.{asked_of, batch_of, is_unnamed, NamesPartition};
 ghost use Rattle.instance.specs.Passing.{Consults};
@@ -22,11 +23,12 @@ use broker_link::Link;
 use gate_io::{Items, Text, Want};
 use instance::{Instance, Outcome};
 use producer::produce;
-use rest_calls::{Batch, Call, Settings};
+use rest_calls::{Batch, Call, Question, Settings};
 use rest_codes::Reply;
 use rest_replies::{made, refused, reply_to};
 use std::alloc::Global;
 use std::snapshot::Snapshot;
+use topic_reads::ask;
 
 /// The consumers of some keys over a link, and the moment of the last step, in milliseconds.
 #[derive(Drop)]
@@ -185,6 +187,40 @@ impl<L: Link + Drop> Shard<L> {
             round: Some(round),
             table: no_table(alloc),
             reply: outcome.reply,
+        }
+    }
+
+    /// Answers a question for a caller: one step. `asked` is the call that it is of.
+    pub fn ask(
+        &mut self,
+        alloc: Global,
+        caller: u32,
+        now: u64,
+        asked: Snapshot<Call>,
+        question: &Question,
+    ) -> Entry
+        requires whose { asked_of asked.value ≡ Ask (question_of question.now) }
+        ensures steps { ShardSteps L.stand self.old (noted result) self.new }
+
+        // What is known of the entry, whatever the link tells.
+        ensures entry { IsEntry caller (max now self.old.last) (Ask (question_of question.now)) 0 result }
+        ensures replied { result.reply ≡ None → ⊥ }
+        ensures asked { (L.stand self.new.link).produces ≡ (L.stand self.old.link).produces }
+
+        ensures advertise { self.new.advertise ≡ self.old.advertise }
+        ensures first { self.new.first ≡ self.old.first }
+    {
+        let moment = now.max(self.last);
+        self.last = moment;
+        let reply = ask(alloc, &mut self.link, question);
+        Entry {
+            caller,
+            moment,
+            events: Items::new(alloc),
+            call: Some(asked),
+            round: Some(0),
+            table: no_table(alloc),
+            reply: Some(reply),
         }
     }
 

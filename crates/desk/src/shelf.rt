@@ -18,7 +18,7 @@ pub(crate) fn group_of(call: &Call) -> &str
     ensures { result.now ≡ group_in (asked_of call.now) }
 {
     match call {
-        Call::Produce { .. } => "",
+        Call::Produce { .. } | Call::Ask(_) => "",
         Call::Create { group, .. } => group.as_str(),
         Call::Delete { group, .. } => group.as_str(),
         Call::Assign { group, .. } => group.as_str(),

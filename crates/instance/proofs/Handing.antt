@@ -98,6 +98,7 @@ handed_failed now round timeout bound before after c events r b c2 e comes (inr 
 pub no_look : (call : Call) (key : Key) (timeout bound : Option ℕ) → asked_of call ≡ Of key (Records [] timeout bound)
     → ((group instance : List ℕ) (time most : Option ℕ) → call ≡ calls.Records group instance time most → ⊥) → ⊥
 no_look (calls.Produce topic batch) key timeout bound is no_records = cc is
+no_look (calls.Ask question) key timeout bound is no_records = cc is
 no_look (calls.Create group name settings) key timeout bound is no_records = cc is
 no_look (calls.Delete group name) key timeout bound is no_records = cc is
 no_look (calls.Assign group name parts) key timeout bound is no_records = cc is

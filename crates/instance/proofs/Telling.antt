@@ -30,7 +30,8 @@ use Rattle.consumer_state.specs.Views.{consumer_of}
 use Rattle.instance.specs.Views.{Live as Seen}
 use Rattle.consumer_state.specs.declared.consumer.Consumer.{Consumer as Kept}
 use Rattle.consumer_state.proofs.Fixing.{ats_are}
-use Rattle.consumer_state.proofs.Linking.{counted_done, counts_stay}
+use Rattle.broker_link.proofs.CountedLemmas.{counted_done}
+use Rattle.consumer_state.proofs.Linking.{counts_stay}
 use Rattle.instance.proofs.Wanting.{mode_is, not_due, same, unpumped, wanting}
 
 quiet : (advertise : List ℕ) (call : Call) (key : Key) (now round : ℕ) (act : Act) → asked_of call ≡ Of key act → (tells plain : Type 0) (counts : Counts) (c : Consumer) (a : Log) (answer : Reply) (r : CodeReply)
@@ -77,6 +78,7 @@ pub told_acts : (advertise : List ℕ) (call : Call) (key : Key) (now round : �
     → ((group instance : List ℕ) (timeout bound : Option ℕ) → call ≡ calls.Records group instance timeout bound → ⊥) → TellsSo (map (λ (place : Place). place.at) c.assignment) call r
     → ActsSo advertise key now round act tells plain counts counts c a [] (Some (response_in r)) a (touched now c)
 told_acts advertise (calls.Produce topic batch) key now round act is tells plain counts c a r off mode no_assign no_records says = absurd (cc is)
+told_acts advertise (calls.Ask question) key now round act is tells plain counts c a r off mode no_assign no_records says = absurd (cc is)
 told_acts advertise (calls.Create group name settings) key now round (Create s) is tells plain counts c a r off mode no_assign no_records says =
     either advertise (calls.Create group name settings) key now round (Create s) is tells plain counts c a (Refused 40902) r off mode says refl refl tt (λ turn log. (refl, same a, inl (record { says = refl; left = refl })))
 told_acts advertise (calls.Delete group name) key now round Delete is tells plain counts c a r off mode no_assign no_records says =

@@ -68,6 +68,7 @@ mode_is (place ∷ places) is = absurd (cc is)
 pub wanting : (call : Call) (key : Key) (act : Act) → asked_of call ≡ Of key act → (moment : ℕ) (turn : Turn) (c : Consumer) (a : Log) → c.settings.auto_commit ≡ false → c.mode ≢ ByTopics → IsLog a
     → Live key moment turn act c a [] (Some Want) a (live_after act (Some Want) (touched moment c))
 wanting (call.Produce topic batch) key act is moment turn c a off mode log = absurd (cc is)
+wanting (call.Ask question) key act is moment turn c a off mode log = absurd (cc is)
 wanting (call.Create group name settings) key (Create s) is moment turn c a off mode log = (refl, same a, inr (record { says = refl; left = refl }))
 wanting (call.Delete group name) key Delete is moment turn c a off mode log = (refl, inl (not_due c 0 off, same a), inr (record { says = refl; left = refl }))
 wanting (call.Assign group name parts) key (Assign ats) is moment turn c a off mode log = (refl, same a, inr (mode, inr (inl (record { says = refl; left = refl }))))
@@ -79,6 +80,7 @@ wanting call key act is moment turn c a off mode log = absurd (cc is)
 
 pub unpumped : (call : Call) (key : Key) (act : Act) → asked_of call ≡ Of key act → (before after : legal.Counts) (c : Consumer) → c.mode ≢ ByTopics → LooksWell before after None None c act []
 unpumped (call.Produce topic batch) key act is before after c mode = absurd (cc is)
+unpumped (call.Ask question) key act is before after c mode = absurd (cc is)
 unpumped (call.Create group name settings) key (Create s) is before after c mode = tt
 unpumped (call.Delete group name) key Delete is before after c mode = tt
 unpumped (call.Assign group name parts) key (Assign ats) is before after c mode = tt

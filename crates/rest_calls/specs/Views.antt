@@ -4,15 +4,16 @@ use Rattle.model.specs.state.Entry as model
 use Rattle.model.specs.state.World as world
 use Rattle.model.specs.state.World.Format.{Binary}
 use Rattle.model.specs.state.Entry.Act.{Create as Creates, Delete as Deletes, Assign as Assigns, Assignments as AsksAssignments, Records as AsksRecords}
-use Rattle.model.specs.state.Entry.Call.{Produce as Asks, Of}
+use Rattle.model.specs.state.Entry.Call.{Produce as Asks, Ask as Questions, Of}
 use Rattle.broker_link.specs.Fetching.{at_of, edge_view}
+use Rattle.rest_calls.specs.Questions.{question_of}
 use Rattle.rest_calls.specs.declared.call.Payload.{Payload}
 use Rattle.rest_calls.specs.declared.call.Payload.TheVariants.{Null, Ready}
 use Rattle.rest_calls.specs.declared.call.Row.{Row}
 use Rattle.rest_calls.specs.declared.call.Batch.{Batch}
 use Rattle.rest_calls.specs.declared.call.Call.{Call}
 use Rattle.rest_calls.specs.declared.call.Settings.{Settings}
-use Rattle.rest_calls.specs.declared.call.Call.TheVariants.{Produce, Create, Delete, Assign, Assignments, Records}
+use Rattle.rest_calls.specs.declared.call.Call.TheVariants.{Produce, Ask, Create, Delete, Assign, Assignments, Records}
 
 -- the bytes of a key or value: null has none
 abbrev pub bytes_of : Payload → Option (List ℕ)
@@ -48,6 +49,7 @@ name_in (Some name) = name
 -- What a call asks. A Create without a name has an empty one here, which no instance has.
 abbrev pub asked_of : Call → model.Call
 asked_of (Produce topic batch) = Asks topic (batch_of batch)
+asked_of (Ask question) = Questions (question_of question)
 asked_of (Create group name settings) = Of (key_in group (name_in name)) (Creates (settings_of settings))
 asked_of (Delete group instance) = Of (key_in group instance) Deletes
 asked_of (Assign group instance parts) = Of (key_in group instance) (Assigns (map at_of parts))

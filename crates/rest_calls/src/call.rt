@@ -1,3 +1,4 @@
+use crate::Question;
 use broker_link::{Edge, TopicPart};
 use gate_io::{Items, Text};
 
@@ -41,6 +42,7 @@ pub enum Call {
         topic: Text,
         batch: Batch,
     },
+    Ask(Question),
     Create {
         group: Text,
         name: Option<Text>,

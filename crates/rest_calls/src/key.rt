@@ -31,6 +31,7 @@ fn bytes_of(alloc: Global, call: &Call) -> Result<Items<u8>, AllocError>
 {
     match call {
         Call::Produce { topic, .. } => Items::from_slice(alloc, topic.as_bytes()),
+        Call::Ask(_) => Ok(Items::new(alloc)),
         Call::Create { group, name, .. } => joined(alloc, group, name_in(name)),
         Call::Delete { group, instance } => joined(alloc, group, instance.as_str()),
         Call::Assign {
@@ -48,7 +49,7 @@ fn bytes_of(alloc: Global, call: &Call) -> Result<Items<u8>, AllocError>
 }
 
 /// The bytes by which a call finds its shard: for a consumer's call the group, a zero byte and the
-/// instance, and for a produce the topic.
+/// instance, for a produce the topic, and none for a question.
 pub fn key_of(alloc: Global, call: &Call) -> Result<Items<u8>, Want>
     requires named { is_unnamed (asked_of call.now) ≡ false }
     ensures { IfOk result (λ key. key ≡ key_bytes_of (asked_of call.now)) }

@@ -1,5 +1,5 @@
 -- From the texts of records' answers to the text of all of them, and to the reply.
-use Rattle.std.proofs.Common.{◌≡◌, ℕ, ◌+◌, ◌<◌, ◌≤◌, List, [], ◌∷◌, ◌++◌, length, take, map, get_or, refl, ap, sym, ◌∙◌, append_assoc, arith, inl, Bool, true, false, cond}
+use Rattle.std.proofs.Common.{◌≡◌, ℕ, ◌+◌, ◌<◌, ◌≤◌, List, [], ◌∷◌, ◌++◌, length, take, map, get_or, refl, ap, sym, ◌∙◌, append_assoc, arith, inl, true, false, cond}
 use Rattle.std.specs.Prelude.{codes, ◌==◌, None}
 use Rattle.std.proofs.lemmas.List.{map_more, length-map, length-take, take_all}
 use Rattle.model.specs.texts.Texts.{is_retriable, joined, placed_text}

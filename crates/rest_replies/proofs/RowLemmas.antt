@@ -1,5 +1,5 @@
 -- From the pieces of a record's text to the text that the model writes.
-use Rattle.std.proofs.Common.{◌≡◌, ℕ, List, ◌++◌, refl, ap, sym, ◌∙◌, append_assoc, nat_abs}
+use Rattle.std.proofs.Common.{◌≡◌, ℕ, List, ◌++◌, append_assoc, nat_abs}
 use Rattle.std.specs.Prelude.{codes, decimal}
 use Rattle.json.specs.Print.{quoted}
 use Rattle.model.specs.state.Log.{TopicPart}

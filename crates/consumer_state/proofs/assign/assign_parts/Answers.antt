@@ -17,7 +17,8 @@ use Rattle.consumer_state.specs.Views.{consumer_of}
 use Rattle.broker_link.specs.declared.place.Place.{Place as CodePlace}
 use Rattle.consumer_state.proofs.Assigning.{assign_acts, ends_assigned, ends_cleared, ends_failed, ends_wanting, none_listed, none_there, not_by_topics, set_there, some_listed, still_there}
 use Rattle.consumer_state.proofs.Fixing.{ats_are}
-use Rattle.consumer_state.proofs.Linking.{counted_done, counted_failed, counts_stay, goes_nowhere}
+use Rattle.broker_link.proofs.CountedLemmas.{counted_done}
+use Rattle.consumer_state.proofs.Linking.{counted_failed, counts_stay, goes_nowhere}
 use Rattle.consumer_state.proofs.assign.assign_parts.Goals as goal
 
 pub returns-then-is_empty-clause-acts : goal.returns-then-is_empty-clause-acts

@@ -12,7 +12,7 @@ produce-requires-clause-named g c =
     subst NamesPartitions (sym c.see-call.ensures.call ∙ c.in-Produce.is) (named_still c.args.call c.in-Ok.call c.args.self.now.names_given c.in-Ok.ensures.entered c.in-Ok.ensures.same c.requires.named)
 
 pub look_until_answered-requires : goal.look_until_answered-requires
-look_until_answered-requires g c = record { whose = whose_is c.see-call.result.call c.in_default.not-Produce }
+look_until_answered-requires g c = record { whose = whose_is c.see-call.result.call c.in_default.not-Produce c.in_default.not-Ask }
 
 pub returns-in_default : goal.returns-in_default
 returns-in_default g c =

@@ -1,0 +1,4 @@
+pub mod Topics
+pub mod Names
+pub mod Finding
+pub mod Asking

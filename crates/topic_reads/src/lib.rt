@@ -1,0 +1,7 @@
+//! Questions on brokers, topics and partitions, asked of the link.
+#![tactic(auto)]
+
+mod find;
+mod reply;
+
+pub use reply::ask;
