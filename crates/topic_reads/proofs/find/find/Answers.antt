@@ -1,4 +1,4 @@
-use Rattle.std.proofs.Common.{ap, subst, sym}
+use Rattle.std.proofs.Common.{Ok, ap, subst, sym}
 use Rattle.broker_link.proofs.Going.{consults_once}
 use Rattle.broker_link.specs.Fetching.{at_of}
 use Rattle.broker_link.specs.Stands.{Consults}
@@ -22,10 +22,10 @@ returns-clause-consults g c =
 pub returns-clause-answered : goal.returns-clause-answered
 returns-clause-answered g c = λ tells log.
     elim c.match-question.branch [
-      | in-Brokers+in_ok-brokers-in-Brokers w ↦ brokers_answered c.args.question.now c.match-question.found (g.L.Link.stand c.args.link.now).log (g.L.Link.stand c.match-question.link).log ? w.in-Brokers.is w.found-is w.in_ok-brokers-in-Brokers.ensures.rise
-      | in-Topics+in_ok-metadata-in-Topics w ↦ topics_answered c.args.question.now c.match-question.found (g.L.Link.stand c.args.link.now).log (g.L.Link.stand w.metadata.new.self).log (g.L.Link.stand c.match-question.link).log ? w.in-Topics.is w.found-is (w.metadata.ensures.goes.goes.is_log tells log) (w.metadata.ensures.goes.goes.keeps tells) (w.in_ok-metadata-in-Topics.ensures.known tells)
-      | in-Topic+in_ok-topic_info-in-Topic w ↦ topic_answered c.args.question.now c.match-question.found (g.L.Link.stand c.args.link.now).log (g.L.Link.stand c.match-question.link).log w.in-Topic.topic w.as_str.result.now ? w.in-Topic.is w.found-is w.as_str.ensures (w.in_ok-topic_info-in-Topic.ensures.found tells log)
-      | in-Partitions+in_ok-topic_info-in-Partitions w ↦ parts_answered c.args.question.now c.match-question.found (g.L.Link.stand c.args.link.now).log (g.L.Link.stand c.match-question.link).log w.in-Partitions.topic w.as_str-in-Partitions.result.now ? w.in-Partitions.is w.found-is w.as_str-in-Partitions.ensures (w.in_ok-topic_info-in-Partitions.ensures.found tells log)
-      | in-Partition+in_ok-part_info-in-Partition w ↦ part_answered c.args.question.now c.match-question.found (g.L.Link.stand c.args.link.now).log (g.L.Link.stand c.match-question.link).log (at_of w.in-Partition.part) ? (ap question_of w.in-Partition.is) w.found-is (w.in_ok-part_info-in-Partition.ensures.found tells log)
-      | in-EndOffsets+in_ok-start-in-EndOffsets w ↦ edges_answered c.args.question.now c.match-question.found (g.L.Link.stand c.args.link.now).log (g.L.Link.stand c.match-question.link).log (at_of w.in-EndOffsets.part) ? ? (ap question_of w.in-EndOffsets.is) w.found-is (subst (λ l. FindsEdges (g.L.Link.stand c.args.link.now).log (g.L.Link.stand l).log (at_of w.in-EndOffsets.part) ?) (sym w.link-is) (w.in_ok-start-in-EndOffsets.ensures.found tells log))
+      | in-Brokers+in_ok-brokers-in-Brokers w ↦ brokers_answered c.args.question.now c.match-question.found (g.L.Link.stand c.args.link.now).log (g.L.Link.stand c.match-question.link).log w.in_ok-brokers-in-Brokers.field-0 w.in-Brokers.is w.found-is w.in_ok-brokers-in-Brokers.ensures.rise
+      | in-Topics+in_ok-metadata-in-Topics w ↦ topics_answered c.args.question.now c.match-question.found (g.L.Link.stand c.args.link.now).log (g.L.Link.stand w.metadata.new.self).log (g.L.Link.stand c.match-question.link).log w.in_ok-metadata-in-Topics.field-0 w.in-Topics.is w.found-is (w.metadata.ensures.goes.goes.is_log tells log) (w.metadata.ensures.goes.goes.keeps tells) (w.in_ok-metadata-in-Topics.ensures.known tells)
+      | in-Topic+in_ok-topic_info-in-Topic w ↦ topic_answered c.args.question.now c.match-question.found (g.L.Link.stand c.args.link.now).log (g.L.Link.stand c.match-question.link).log w.in-Topic.topic w.as_str.result.now w.in_ok-topic_info-in-Topic.field-0 w.in-Topic.is w.found-is w.as_str.ensures (w.in_ok-topic_info-in-Topic.ensures.found tells log)
+      | in-Partitions+in_ok-topic_info-in-Partitions w ↦ parts_answered c.args.question.now c.match-question.found (g.L.Link.stand c.args.link.now).log (g.L.Link.stand c.match-question.link).log w.in-Partitions.topic w.as_str-in-Partitions.result.now w.in_ok-topic_info-in-Partitions.field-0 w.in-Partitions.is w.found-is w.as_str-in-Partitions.ensures (w.in_ok-topic_info-in-Partitions.ensures.found tells log)
+      | in-Partition+in_ok-part_info-in-Partition w ↦ part_answered c.args.question.now c.match-question.found (g.L.Link.stand c.args.link.now).log (g.L.Link.stand c.match-question.link).log (at_of w.in-Partition.part) w.in_ok-part_info-in-Partition.field-0 (ap question_of w.in-Partition.is) w.found-is (w.in_ok-part_info-in-Partition.ensures.found tells log)
+      | in-EndOffsets+in_ok-start-in-EndOffsets w ↦ edges_answered c.args.question.now c.match-question.found (g.L.Link.stand c.args.link.now).log (g.L.Link.stand c.match-question.link).log (at_of w.in-EndOffsets.part) w.in_ok-start-in-EndOffsets.start w.in_ok-start-in-EndOffsets.end (ap question_of w.in-EndOffsets.is) w.found-is (subst (λ l. FindsEdges (g.L.Link.stand c.args.link.now).log (g.L.Link.stand l).log (at_of w.in-EndOffsets.part) (Ok (w.in_ok-start-in-EndOffsets.start, w.in_ok-start-in-EndOffsets.end))) (sym w.link-is) (w.in_ok-start-in-EndOffsets.ensures.found tells log))
     ]
