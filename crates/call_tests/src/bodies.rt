@@ -28,10 +28,15 @@ fn places_read_as(
 
 const NAMED: &str = "/consumers/a.b_c-9Z/instances/-/records";
 
-const PLACES: [(&str, &str, &str, &str); 11] = [
+const PLACES: [(&str, &str, &str, &str); 16] = [
     ("GET", "/consumers/g", "", "405 9"),
     ("PUT", "/topics/t", "", "405 3"),
-    ("GET", "/topics/t", "", "404 Not found."),
+    ("POST", "/topics/t/partitions/0", "", "404 Not found."),
+    ("GET", "/brokers", "x=%", "brokers"),
+    ("GET", "/topics", "", "topics"),
+    ("GET", "/topics/t", "", "topic t"),
+    ("GET", "/topics/a%20b/partitions", "", "partitions a b"),
+    ("GET", "/topics/t/partitions/01/offsets", "", "offsets t/1"),
     (
         "DELETE",
         "/consumers/a%20b/instances/c%2F1",
@@ -58,7 +63,7 @@ const PLACES: [(&str, &str, &str, &str); 11] = [
 ];
 
 #[test]
-fn reads_each_place_of_a_consumer(rt: HostRuntime) -> Result<(), Fail> {
+fn reads_each_place_without_a_body(rt: HostRuntime) -> Result<(), Fail> {
     places_read_as(&rt, rt.alloc(), &PLACES)
 }
 

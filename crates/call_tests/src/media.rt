@@ -54,7 +54,12 @@ fn accepts_are(
     Ok(())
 }
 
-const ACCEPTS: [((&str, &str), &str, u32); 20] = [
+const TOPICS: (&str, &str) = ("GET", "/topics");
+
+const ACCEPTS: [((&str, &str), &str, u32); 23] = [
+    (TOPICS, "application/vnd.kafka.v2+json", 200),
+    (TOPICS, "*/*", 200),
+    (TOPICS, BINARY, 406),
     (DELETE, "", 200),
     (DELETE, "application/vnd.kafka.v2+json", 200),
     (DELETE, "application/vnd.kafka+json", 200),
@@ -103,7 +108,8 @@ fn types_are(
     Ok(())
 }
 
-const TYPES: [((&str, &str), &str, &str, u32); 17] = [
+const TYPES: [((&str, &str), &str, &str, u32); 18] = [
+    (TOPICS, "text/plain", "{}", 200),
     (PRODUCE, BINARY, "{}", 200),
     (
         PRODUCE,

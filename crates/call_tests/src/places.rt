@@ -1,5 +1,5 @@
 use crate::sample::request_of;
-use rest_routes::{Ask, Missing, Place, Routes, place_of};
+use rest_routes::{Ask, Missing, PartitionAsk, Place, Routes, TopicAsk, place_of};
 use std::alloc::{AllocError, Global};
 use std::process::Abort;
 use std::test::Fail;
@@ -13,15 +13,36 @@ fn name_of(ask: Ask) -> &'static str {
     }
 }
 
+fn topic_name_of(ask: TopicAsk) -> &'static str {
+    match ask {
+        TopicAsk::Produce => "topic",
+        TopicAsk::Description => "description",
+        TopicAsk::Partitions => "partitions",
+    }
+}
+
+fn partition_name_of(ask: PartitionAsk) -> &'static str {
+    match ask {
+        PartitionAsk::Description => "partition",
+        PartitionAsk::EndOffsets => "offsets",
+    }
+}
+
 /// A place as a text, or why there is none.
 fn shown(alloc: Global, place: Result<Place, Missing>) -> Result<String, AllocError> {
     match place {
         Err(Missing::NotFound) => String::from_str(alloc, "none"),
         Err(Missing::NoMethod(allow)) => format!(in alloc; "lacks {allow}"),
         Err(Missing::Want) => String::from_str(alloc, "want"),
-        Ok(Place::Topic(topic)) => {
-            let topic = topic.as_str();
-            format!(in alloc; "topic {topic}")
+        Ok(Place::Brokers) => String::from_str(alloc, "brokers"),
+        Ok(Place::Topics) => String::from_str(alloc, "topics"),
+        Ok(Place::Topic(topic, ask)) => {
+            let (topic, ask) = (topic.as_str(), topic_name_of(ask));
+            format!(in alloc; "{ask} {topic}")
+        }
+        Ok(Place::Partition(topic, number, ask)) => {
+            let (topic, number, ask) = (topic.as_str(), number.value(), partition_name_of(ask));
+            format!(in alloc; "{ask} {topic} {number}")
         }
         Ok(Place::Group(group)) => {
             let group = group.as_str();
@@ -50,7 +71,25 @@ fn places_are(rt: &impl Abort, alloc: Global, cases: &[(&str, &str, &str)]) -> R
     Ok(())
 }
 
-const PLACES: [(&str, &str, &str); 15] = [
+const PLACES: [(&str, &str, &str); 25] = [
+    ("GET", "/brokers", "brokers"),
+    ("GET", "/topics", "topics"),
+    ("GET", "/topics/t", "description t"),
+    ("GET", "/topics/a%2Fb", "description a/b"),
+    ("GET", "/topics/t/partitions", "partitions t"),
+    ("GET", "/topics/t/partitions/0", "partition t 0"),
+    ("GET", "/topics/%74/partitions/007", "partition t 7"),
+    (
+        "GET",
+        "/topics/t/partitions/%32147483647",
+        "partition t 2147483647",
+    ),
+    ("GET", "/topics/t/partitions/1/offsets", "offsets t 1"),
+    (
+        "GET",
+        "/topics/partitions/partitions/2/offsets",
+        "offsets partitions 2",
+    ),
     ("POST", "/topics/a.b_c-9Z", "topic a.b_c-9Z"),
     ("POST", "/topics/.", "topic ."),
     ("POST", "/topics/..", "topic .."),
@@ -116,14 +155,8 @@ fn a_path_without_the_method_tells_its_first_place(rt: HostRuntime) -> Result<()
 }
 
 // Places of the reference that no call stands for yet.
-const UNBUILT: [(&str, &str, &str); 14] = [
-    ("GET", "/brokers", "none"),
-    ("GET", "/topics", "none"),
-    ("GET", "/topics/t", "none"),
-    ("GET", "/topics/t/partitions", "none"),
-    ("GET", "/topics/t/partitions/0", "none"),
+const UNBUILT: [(&str, &str, &str); 8] = [
     ("POST", "/topics/t/partitions/2147483647", "none"),
-    ("GET", "/topics/t/partitions/0/offsets", "none"),
     ("POST", "/consumers/g/instances/c/offsets", "none"),
     ("GET", "/consumers/g/instances/c/offsets", "none"),
     ("DELETE", "/consumers/g/instances/c/subscription", "none"),
@@ -142,7 +175,12 @@ fn a_place_that_is_not_built_is_none(rt: HostRuntime) -> Result<(), Fail> {
     places_are(&rt, rt.alloc(), &UNBUILT)
 }
 
-const NOWHERE: [(&str, &str, &str); 24] = [
+const NOWHERE: [(&str, &str, &str); 29] = [
+    ("GET", "/brokers/", "none"),
+    ("GET", "/topics//partitions", "none"),
+    ("GET", "/topics/t/partitions/", "none"),
+    ("GET", "/topics/t/partitions/2147483648", "none"),
+    ("GET", "/topics/t/partitions/+1/offsets", "none"),
     ("POST", "", "none"),
     ("POST", "/", "none"),
     ("POST", "/topic", "none"),

@@ -1,5 +1,6 @@
 pub mod Answers
 pub mod Counting
+pub mod FourLemmas
 pub mod Ends
 pub mod Groups
 pub mod Places

@@ -2,9 +2,11 @@
 #![tactic(auto)]
 
 mod by_part;
+mod partition;
 mod parts;
 mod request;
 mod send;
 mod told;
 
+pub use partition::partition_of;
 pub use request::produce;

@@ -1,10 +1,12 @@
--- What a request asks for, or why it is refused: a produce of binary records, and the calls of one consumer (Confluent REST Proxy API v2).
-use Rattle.std.specs.Prelude.{◌≡◌, ℕ, ◌⊎◌, List, [], ◌∷◌, Option, Some, None, Result, Ok, Err, Bool, true, false}
+-- What a request asks for, or why it is refused: questions on brokers, topics and partitions, a produce of binary records, and the calls
+-- of one consumer (Confluent REST Proxy API v2).
+use Rattle.std.specs.Prelude.{◌≡◌, ℕ, pos, ◌⊎◌, List, [], ◌∷◌, Option, Some, None, Result, Ok, Err, Bool, true, false}
 use Rattle.serde_json.specs.Data.{Data}
 use Rattle.model.specs.state.Log.{TopicPart}
 use Rattle.model.specs.state.World.{Key, Settings}
-use Rattle.model.specs.state.Entry.{Call, Given}
-use Rattle.model.specs.state.Entry.Call.{Produce, Of}
+use Rattle.model.specs.state.Entry.{Call, Given, Question}
+use Rattle.model.specs.state.Entry.Call.{Produce, Ask, Of}
+use Rattle.model.specs.state.Entry.Question.{Brokers as AllBrokers, Topics as AllTopics, OneTopic, Parts, OnePart, EndOffsets as Edges}
 use Rattle.model.specs.state.Entry.Act.{Create as Creates, Delete as Deletes, Assign as Assigns, Assignments as AsksAssignments, Records as AsksRecords}
 use Rattle.http_conn.specs.declared.request.Request.{Request}
 use Rattle.rest_codes.specs.declared.response.Reply.{Reply}
@@ -13,7 +15,10 @@ use Rattle.rest_codes.specs.Errors.{refusal_of}
 use Rattle.rest_calls.specs.Views.{key_in}
 use Rattle.rest_routes.specs.Place.{Sent, Nowhere, Lacks, At, sent_of}
 use Rattle.rest_routes.specs.declared.place.Place.{Place}
-use Rattle.rest_routes.specs.declared.place.Place.TheVariants.{Topic, Group, Instance}
+use Rattle.rest_routes.specs.declared.place.Place.TheVariants.{Brokers, Topics, Topic, Partition, Group, Instance}
+use Rattle.rest_routes.specs.declared.place.TopicAsk.TheVariants as topic
+use Rattle.rest_routes.specs.declared.place.PartitionAsk.{PartitionAsk}
+use Rattle.rest_routes.specs.declared.place.PartitionAsk.TheVariants as partition
 use Rattle.rest_calls.specs.Json.{IsJson}
 use Rattle.rest_calls.specs.Body.{produced_by}
 use Rattle.rest_calls.specs.Create.{created_by, usual_settings}
@@ -71,9 +76,19 @@ abbrev pub records_read : Key → Option Limits → Read
 records_read key (Some limits) = Calls (Of key (AsksRecords [] limits.timeout limits.max_bytes))
 records_read key None = Refuses 422
 
+-- what is asked of a partition
+abbrev pub asked_of_part : TopicPart → PartitionAsk → Question
+asked_of_part at partition.Description = OnePart at
+asked_of_part at partition.EndOffsets = Edges at
+
 -- what a request that is sent to a place reads as
 abbrev pub ReadingAt : Place → Request → Read → Type 0
-ReadingAt (Topic topic) request read = (records : Option (List Given)) × ProducedAs request.body records × (read ≡ produce_read topic records)
+ReadingAt Brokers request read = read ≡ Calls (Ask AllBrokers)
+ReadingAt Topics request read = read ≡ Calls (Ask AllTopics)
+ReadingAt (Topic name topic.Produce) request read = (records : Option (List Given)) × ProducedAs request.body records × (read ≡ produce_read name records)
+ReadingAt (Topic name topic.Description) request read = read ≡ Calls (Ask (OneTopic name))
+ReadingAt (Topic name topic.Partitions) request read = read ≡ Calls (Ask (Parts name))
+ReadingAt (Partition name number ask) request read = read ≡ Calls (Ask (asked_of_part (record { topic = name; partition = number }) ask))
 ReadingAt (Group group) request read = (made : Result (List ℕ × Settings) ℕ) × CreatedAs request.body made × (read ≡ create_read group made)
 ReadingAt (Instance group name Delete) request read = read ≡ Calls (Of (key_in group name) Deletes)
 ReadingAt (Instance group name Assign) request read = (parts : Option (List TopicPart)) × AssignedAs request.body parts × (read ≡ assign_read (key_in group name) parts)

@@ -9,6 +9,7 @@ mod key;
 mod question;
 mod reading;
 mod sent;
+mod shard;
 mod unread;
 mod value;
 
@@ -16,3 +17,4 @@ pub use call::{Batch, Call, Payload, Row, Settings};
 pub use key::key_of;
 pub use question::Question;
 pub use reading::{call_of, readings_are_one};
+pub use shard::shard_of;

@@ -1,21 +1,26 @@
-ghost use Rattle.std.specs.Prelude.{IfOk};
-ghost use Rattle.rest_calls.specs.Reading.{ReadingAt};
+ghost use Rattle.std.specs.Prelude.{◌≡◌, IfOk};
+ghost use Rattle.broker_link.specs.Fetching.{at_of};
+ghost use Rattle.rest_calls.specs.Questions.{question_of};
+ghost use Rattle.rest_calls.specs.Reading.{ReadingAt, asked_of_part};
 ghost use Rattle.rest_calls.specs.Reads.{GivesCall, IsWhole};
 ghost use Rattle.rest_routes.specs.declared.place.Place.TheVariants as place;
+ghost use Rattle.rest_routes.specs.declared.place.TopicAsk.TheVariants as topic_ask;
 ghost use Rattle.rest_routes.specs.declared.place.Ask.TheVariants as ask;
 
 use crate::assign::read_parts;
 use crate::body::read_body;
 use crate::call::Call;
 use crate::create::{Created, read_create};
+use crate::question::Question;
 use crate::unread::Unread;
+use broker_link::TopicPart;
 use gate_io::Text;
 use http_conn::Request;
-use rest_routes::{Ask, Place, limits_of};
+use rest_routes::{Ask, PartitionAsk, Place, TopicAsk, limits_of};
 use std::alloc::{AllocError, Global};
 
 fn produce(alloc: Global, topic: Text, request: &Request) -> Result<Call, Unread>
-    ensures reads { GivesCall result (ReadingAt (place.Topic topic) request.now) }
+    ensures reads { GivesCall result (ReadingAt (place.Topic topic topic_ask.Produce) request.now) }
     ensures whole { IfOk result IsWhole }
 {
     match read_body(alloc, request.body.as_slice()) {
@@ -70,13 +75,30 @@ fn records(alloc: Global, group: Text, instance: Text, request: &Request) -> Res
     }
 }
 
+fn asked_of_part(part: TopicPart, ask: PartitionAsk) -> Question
+    ensures { question_of result ≡ asked_of_part (at_of part) ask }
+{
+    match ask {
+        PartitionAsk::Description => Question::Partition(part),
+        PartitionAsk::EndOffsets => Question::EndOffsets(part),
+    }
+}
+
 /// Reads a request that is sent to a place.
 pub(crate) fn read_at(alloc: Global, place: Place, request: &Request) -> Result<Call, Unread>
     ensures reads { GivesCall result (ReadingAt place request.now) }
     ensures whole { IfOk result IsWhole }
 {
     match place {
-        Place::Topic(topic) => produce(alloc, topic, request),
+        Place::Brokers => Ok(Call::Ask(Question::Brokers)),
+        Place::Topics => Ok(Call::Ask(Question::Topics)),
+        Place::Topic(topic, TopicAsk::Produce) => produce(alloc, topic, request),
+        Place::Topic(topic, TopicAsk::Description) => Ok(Call::Ask(Question::Topic(topic))),
+        Place::Topic(topic, TopicAsk::Partitions) => Ok(Call::Ask(Question::Partitions(topic))),
+        Place::Partition(topic, number, ask) => {
+            let partition = number.value();
+            Ok(Call::Ask(asked_of_part(TopicPart { topic, partition }, ask)))
+        }
         Place::Group(group) => create(alloc, group, request),
         Place::Instance(group, instance, Ask::Delete) => Ok(Call::Delete { group, instance }),
         Place::Instance(group, instance, Ask::Assign) => assign(alloc, group, instance, request),

@@ -50,10 +50,10 @@ instance_name_of part = option_and_then printed (name_of part)
 abbrev pub is_numbered : List ℕ → Bool
 is_numbered name = nat_le 1 (length name) && list_all is_ascii_digit name && nat_lt (digits_value 10 name) (2 ^ 31)
 
--- the same digits
-abbrev pub numbered : List ℕ → Option (List ℕ)
-numbered name = if is_numbered name then Some name else None
+-- the number that they write
+abbrev pub numbered : List ℕ → Option ℕ
+numbered name = if is_numbered name then Some (digits_value 10 name) else None
 
--- the number of a partition, in its digits
-abbrev pub number_of : List ℕ → Option (List ℕ)
+-- the number of a partition
+abbrev pub number_of : List ℕ → Option ℕ
 number_of part = option_and_then numbered (name_of part)

@@ -8,11 +8,14 @@ use Rattle.rest_routes.specs.declared.route.Route.{Route}
 use Rattle.rest_routes.specs.declared.route.Route.TheVariants as route
 use Rattle.rest_routes.specs.declared.route.Verb.{Verb}
 use Rattle.rest_routes.specs.declared.route.Verb.TheVariants as verb
+use Rattle.rest_routes.specs.declared.place.TopicAsk.TheVariants as topic
+use Rattle.rest_routes.specs.declared.place.PartitionAsk.{PartitionAsk}
+use Rattle.rest_routes.specs.declared.place.PartitionAsk.TheVariants as partition
 use Rattle.rest_routes.specs.declared.place.Ask.{Ask}
 use Rattle.rest_routes.specs.declared.place.Ask.TheVariants as ask
 use Rattle.rest_routes.specs.declared.place.Names.{Names}
 use Rattle.rest_routes.specs.declared.place.Place.{Place}
-use Rattle.rest_routes.specs.declared.place.Place.TheVariants.{Topic, Group, Instance}
+use Rattle.rest_routes.specs.declared.place.Place.TheVariants.{Brokers, Topics, Topic, Partition, Group, Instance}
 use Rattle.rest_routes.specs.declared.place.Missing.{Missing}
 use Rattle.rest_routes.specs.declared.place.Missing.TheVariants.{NotFound, NoMethod, Want}
 
@@ -26,21 +29,26 @@ pub data Sent : Type 0 where
 -- one name
 abbrev pub alone : Option (List ℕ) → Option Names
 alone None = None
-alone (Some name) = Some (record { first = name; second = [] })
+alone (Some name) = Some (record { first = name; second = []; number = None })
 
 -- two names, where both read
 abbrev pub both : Option (List ℕ) → Option (List ℕ) → Option Names
-both (Some first) (Some second) = Some (record { first = first; second = second })
+both (Some first) (Some second) = Some (record { first = first; second = second; number = None })
 both _ _ = None
+
+-- a topic's name and the number of a partition, where both read
+abbrev pub numbered : Option (List ℕ) → Option ℕ → Option Names
+numbered (Some first) (Some number) = Some (record { first = first; second = []; number = Some number })
+numbered _ _ = None
 
 -- the names that a path gives: a topic, a topic's partition, a group, or an instance of a group
 abbrev pub names_at : Route → List ℕ → Option Names
-names_at route.Brokers path = Some (record { first = []; second = [] })
-names_at route.Topics path = Some (record { first = []; second = [] })
+names_at route.Brokers path = Some (record { first = []; second = []; number = None })
+names_at route.Topics path = Some (record { first = []; second = []; number = None })
 names_at route.Topic path = alone (name_of (first_parameter path))
 names_at route.Partitions path = alone (name_of (first_parameter path))
-names_at route.Partition path = both (name_of (first_parameter path)) (number_of (second_parameter path))
-names_at route.EndOffsets path = both (name_of (first_parameter path)) (number_of (second_parameter path))
+names_at route.Partition path = numbered (name_of (first_parameter path)) (number_of (second_parameter path))
+names_at route.EndOffsets path = numbered (name_of (first_parameter path)) (number_of (second_parameter path))
 names_at route.Group path = alone (instance_name_of (first_parameter path))
 names_at r path = both (instance_name_of (first_parameter path)) (instance_name_of (second_parameter path))
 
@@ -57,9 +65,20 @@ abbrev pub instance_at : Names → Option Ask → Option Place
 instance_at names None = None
 instance_at names (Some ask) = Some (Instance names.first names.second ask)
 
+-- the partition of that number in a topic
+abbrev pub partition_at : List ℕ → Option ℕ → PartitionAsk → Option Place
+partition_at name None ask = None
+partition_at name (Some number) ask = Some (Partition name number ask)
+
 -- the place that a path has for a method, where it is built
 abbrev pub place_at : Route → Verb → Names → Option Place
-place_at route.Topic verb.Post names = Some (Topic names.first)
+place_at route.Brokers verb.Get names = Some Brokers
+place_at route.Topics verb.Get names = Some Topics
+place_at route.Topic verb.Post names = Some (Topic names.first topic.Produce)
+place_at route.Topic verb.Get names = Some (Topic names.first topic.Description)
+place_at route.Partitions verb.Get names = Some (Topic names.first topic.Partitions)
+place_at route.Partition verb.Get names = partition_at names.first names.number partition.Description
+place_at route.EndOffsets verb.Get names = partition_at names.first names.number partition.EndOffsets
 place_at route.Group verb.Post names = Some (Group names.first)
 place_at r v names = instance_at names (ask_at r v)
 

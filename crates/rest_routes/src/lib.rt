@@ -3,6 +3,7 @@
 
 mod digits;
 mod media;
+mod number;
 mod parameter;
 mod path;
 mod place;
@@ -12,8 +13,9 @@ mod routes;
 
 pub use digits::{are_digits, number_in};
 pub use media::{is_acceptable, is_supported};
+pub use number::PartitionNumber;
 pub use path::is_topic_name;
-pub use place::{Ask, Missing, Place, place_of};
+pub use place::{Ask, Missing, PartitionAsk, Place, TopicAsk, place_of};
 pub use query::{Limits, limits_of};
 pub use route::{Route, Verb, allow_lists_the_methods};
 pub use routes::Routes;

@@ -1,8 +1,9 @@
 ghost use Rattle.std.specs.Prelude.{◌≡◌, IfOk};
 ghost use Rattle.std.specs.List.{before_first, list_all};
-ghost use Rattle.rest_routes.specs.Parameter.{behind, first_parameter, instance_name_of, is_numbered, is_printed, is_slash, is_short, name_of, number_of, second_parameter};
+ghost use Rattle.rest_routes.specs.Parameter.{behind, first_parameter, instance_name_of, is_printed, is_slash, is_short, name_of, number_of, numbered, second_parameter};
 
 use crate::digits::{are_digits, number_in};
+use crate::number::PartitionNumber;
 use gate_io::Text;
 use percent_encoding::{DecodeError, percent_decode};
 use std::alloc::{AllocError, Global};
@@ -87,26 +88,26 @@ pub(crate) fn instance_name_of(alloc: Global, part: &str) -> Result<Option<Text>
     }
 }
 
-/// The digits write a number up to 2147483647.
-fn is_numbered(name: &str) -> bool
-    ensures { result ≡ is_numbered name.now }
+/// The number that digits write, up to 2147483647.
+fn numbered(name: &str) -> Option<PartitionNumber>
+    ensures { result ≡ numbered name.now }
 {
     if name.is_empty() || !are_digits(name) {
-        return false;
+        return None;
     }
     match number_in(name) {
-        Some(number) => number <= 2_147_483_647,
-        None => false,
+        Some(number) => PartitionNumber::new(number),
+        None => None,
     }
 }
 
-/// The number of a partition, in its digits.
-pub(crate) fn number_of(alloc: Global, part: &str) -> Result<Option<Text>, AllocError>
-    ensures { IfOk result (λ name. name ≡ number_of part.now) }
+/// The number of a partition.
+pub(crate) fn number_of(alloc: Global, part: &str) -> Result<Option<PartitionNumber>, AllocError>
+    ensures { IfOk result (λ number. number ≡ number_of part.now) }
 {
     match name_of(alloc, part) {
-        Ok(Some(name)) if is_numbered(name.as_str()) => Ok(Some(name)),
-        Ok(_) => Ok(None),
+        Ok(Some(name)) => Ok(numbered(name.as_str())),
+        Ok(None) => Ok(None),
         Err(AllocError) => Err(AllocError),
     }
 }

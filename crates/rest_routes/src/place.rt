@@ -1,12 +1,28 @@
-ghost use Rattle.std.specs.Prelude.{◌≡◌, [], IfOk, IfErr};
-ghost use Rattle.rest_routes.specs.Place.{At, IsMissed, alone, ask_at, both, names_at, place_at, sent_of, sent_with};
+ghost use Rattle.std.specs.Prelude.{◌≡◌, [], None, IfOk, IfErr};
+ghost use Rattle.rest_routes.specs.Place.{At, IsMissed, alone, ask_at, both, names_at, numbered, partition_at, place_at, sent_of, sent_with};
 
+use crate::number::PartitionNumber;
 use crate::parameter::{first_parameter, instance_name_of, name_of, number_of, second_parameter};
 use crate::route::{Route, Verb, verb_of};
 use crate::routes::Routes;
 use gate_io::Text;
 use http_conn::Request;
 use std::alloc::{AllocError, Global};
+
+/// What is asked of a topic. The description lists its partitions too.
+#[derive(Clone, Copy, Debug, PartialEq, Eq)]
+pub enum TopicAsk {
+    Produce,
+    Description,
+    Partitions,
+}
+
+/// What is asked of a partition.
+#[derive(Clone, Copy, Debug, PartialEq, Eq)]
+pub enum PartitionAsk {
+    Description,
+    EndOffsets,
+}
 
 /// What is asked of an instance.
 #[derive(Clone, Copy, Debug, PartialEq, Eq)]
@@ -17,10 +33,14 @@ pub enum Ask {
     Records,
 }
 
-/// To what a request is sent: a topic's records, a group, or an instance of a group.
+/// To what a request is sent: the brokers, the topics, a topic, a partition of a topic, a group, or an
+/// instance of a group.
 #[derive(Debug, Drop)]
 pub enum Place {
-    Topic(Text),
+    Brokers,
+    Topics,
+    Topic(Text, TopicAsk),
+    Partition(Text, PartitionNumber, PartitionAsk),
     Group(Text),
     Instance(Text, Text, Ask),
 }
@@ -35,11 +55,13 @@ pub enum Missing {
     Want,
 }
 
-/// The names that a path gives: one alone leaves the second empty, and none both.
+/// The names that a path gives: one alone leaves the second empty, and none both. A topic's partition
+/// has a number.
 #[derive(Debug, Drop)]
 struct Names {
     first: Text,
     second: Text,
+    number: Option<PartitionNumber>,
 }
 
 fn alone(alloc: Global, name: Option<Text>) -> Option<Names>
@@ -47,24 +69,49 @@ fn alone(alloc: Global, name: Option<Text>) -> Option<Names>
 {
     let first = name?;
     let second = Text::from_string(String::new(alloc));
-    Some(Names { first, second })
+    Some(Names {
+        first,
+        second,
+        number: None,
+    })
+}
+
+fn numbered(alloc: Global, name: Option<Text>, number: Option<PartitionNumber>) -> Option<Names>
+    ensures { result ≡ numbered name number }
+{
+    match (name, number) {
+        (Some(first), Some(number)) => Some(Names {
+            first,
+            second: Text::from_string(String::new(alloc)),
+            number: Some(number),
+        }),
+        _ => None,
+    }
 }
 
 fn both(first: Option<Text>, second: Option<Text>) -> Option<Names>
     ensures { result ≡ both first second }
 {
     match (first, second) {
-        (Some(first), Some(second)) => Some(Names { first, second }),
+        (Some(first), Some(second)) => Some(Names {
+            first,
+            second,
+            number: None,
+        }),
         _ => None,
     }
 }
 
 fn none(alloc: Global) -> Names
-    ensures { result ≡ record { first = []; second = [] } }
+    ensures { result ≡ record { first = []; second = []; number = None } }
 {
     let first = Text::from_string(String::new(alloc));
     let second = Text::from_string(String::new(alloc));
-    Names { first, second }
+    Names {
+        first,
+        second,
+        number: None,
+    }
 }
 
 /// The names that the path gives as this one of the gateway's. None where a parameter doesn't read.
@@ -78,7 +125,8 @@ fn names_at(alloc: Global, route: Route, path: &str) -> Result<Option<Names>, Al
         }
         Route::Partition | Route::EndOffsets => {
             let topic = name_of(alloc, first_parameter(path))?;
-            Ok(both(topic, number_of(alloc, second_parameter(path))?))
+            let number = number_of(alloc, second_parameter(path))?;
+            Ok(numbered(alloc, topic, number))
         }
         Route::Group => Ok(alone(alloc, instance_name_of(alloc, first_parameter(path))?)),
         _ => {
@@ -101,12 +149,29 @@ fn ask_at(route: Route, verb: Verb) -> Option<Ask>
     }
 }
 
+/// The partition that a path names.
+fn partition_at(names: Names, ask: PartitionAsk) -> Option<Place>
+    ensures { result ≡ partition_at names.first names.number ask }
+{
+    let Names { first, number, .. } = names;
+    match number {
+        Some(number) => Some(Place::Partition(first, number, ask)),
+        None => None,
+    }
+}
+
 /// The place that a path has for a method, where it is built.
 fn place_at(route: Route, verb: Verb, names: Names) -> Option<Place>
     ensures { result ≡ place_at route verb names }
 {
     match (route, verb) {
-        (Route::Topic, Verb::Post) => Some(Place::Topic(names.first)),
+        (Route::Brokers, Verb::Get) => Some(Place::Brokers),
+        (Route::Topics, Verb::Get) => Some(Place::Topics),
+        (Route::Topic, Verb::Post) => Some(Place::Topic(names.first, TopicAsk::Produce)),
+        (Route::Topic, Verb::Get) => Some(Place::Topic(names.first, TopicAsk::Description)),
+        (Route::Partitions, Verb::Get) => Some(Place::Topic(names.first, TopicAsk::Partitions)),
+        (Route::Partition, Verb::Get) => partition_at(names, PartitionAsk::Description),
+        (Route::EndOffsets, Verb::Get) => partition_at(names, PartitionAsk::EndOffsets),
         (Route::Group, Verb::Post) => Some(Place::Group(names.first)),
         _ => {
             let ask = ask_at(route, verb)?;
