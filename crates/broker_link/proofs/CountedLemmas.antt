@@ -1,6 +1,5 @@
 -- What a reply says of the link's counts.
 use Rattle.std.proofs.Common.{◌≡◌, ◌∙◌, refl, ap, true, false, Some, ℤ, arith}
-use Rattle.gate_io.specs.Counts.{Rose}
 use Rattle.model.specs.state.Entry.{IsLinks, Reply}
 use Rattle.model.specs.state.Entry.Reply.{Broker, Want as NoMemory}
 use Rattle.model.specs.history.Legal.{is_fault, is_refusal}

@@ -13,34 +13,13 @@ use Rattle.broker_link.specs.Fetching.{at_of}
 use Rattle.broker_link.specs.Count.{IsCount}
 use Rattle.broker_link.specs.declared.fetch.TopicPart.{TopicPart as Part}
 use Rattle.broker_link.proofs.Answered.{parts_counted}
+use Rattle.broker_link.proofs.KeptTopics.{named_as}
 use Rattle.consumer_state.specs.Topics.{FitsNext, Pass, has_topic, is_beyond, topic_code}
 use Rattle.consumer_state.specs.LinkCalls.{FitsCode, IsFailed}
 use Rattle.consumer_state.specs.declared.topics.AssignNo.{AssignNo}
 use Rattle.consumer_state.specs.declared.topics.AssignNo.TheVariants.{NoTopic, NoPartition, Failed}
 
-abbrev is_called : List ℕ → Topic → Bool
-is_called name t = bytes_eq t.name name
-
--- ---- a log that was kept has the same topics
-
-named_as : (a b : List Topic) (name : List ℕ) → shape_of (record { topics = b; committed = λ g at. None; others = 0 }) ≡ shape_of (record { topics = a; committed = λ g at. None; others = 0 })
-    → list_any (is_called name) b ≡ list_any (is_called name) a
-named_as [] [] name e = refl
-named_as [] (y ∷ ys) name e = absurd (cc e)
-named_as (x ∷ xs) [] name e = absurd (cc e)
-named_as (x ∷ xs) (y ∷ ys) name e =
-    let f : Topic → List ℕ × ℕ = λ t. (t.name, length t.parts) in
-    let pair : f y ≡ f x = cc e in
-    let names : y.name ≡ x.name = ap (λ (p : List ℕ × ℕ). p.0) pair in
-    let rest : map f ys ≡ map f xs = cc e in
-    let ih : list_any (is_called name) ys ≡ list_any (is_called name) xs = named_as xs ys name rest in
-    go (bytes_eq x.name name) refl (ap (λ n. bytes_eq n name) names) ih
-  where
-    go : (b : Bool) → bytes_eq x.name name ≡ b → bytes_eq y.name name ≡ bytes_eq x.name name → list_any (is_called name) ys ≡ list_any (is_called name) xs
-        → list_any (is_called name) (y ∷ ys) ≡ list_any (is_called name) (x ∷ xs)
-    go true e f ih = let g : bytes_eq y.name name ≡ true = f ∙ e in rw (e, g) refl
-    go false e f ih = let g : bytes_eq y.name name ≡ false = f ∙ e in rw (e, g) ih
-
+-- a log that was kept has as many partitions of each topic
 pub same_count : (a b : Log) (topic : List ℕ) → Keeps a b → length (parts_in b.topics topic) ≡ length (parts_in a.topics topic)
 same_count a b topic keeps = parts_counted a.topics b.topics topic keeps.shape
 

@@ -57,7 +57,7 @@ counts_stay c = record { faults_kept = omega arith; refusals_kept = omega arith;
 comes_since : (c d e : Counts) (no : AssignNo) → CountsKept c d → ComesOf d e no → ComesOf c e no
 comes_since c d e NoTopic kept comes = tt
 comes_since c d e NoPartition kept comes = tt
-comes_since c d e (Failed no) kept comes = comes_on c d e no kept comes
+comes_since c d e (Failed why) kept comes = comes_on c d e why kept comes
 
 -- the cause of a later call is one since an earlier moment
 pub caused_since : {T : Type 0} (c d e : Counts) (result : Result T AssignNo) → CountsKept c d → IsCaused d e result → IsCaused c e result

@@ -17,6 +17,7 @@ use Rattle.broker_link.specs.Causes.{Counts, ComesOf}
 use Rattle.broker_link.specs.declared.link.LinkNo.{LinkNo}
 use Rattle.broker_link.specs.declared.link.LinkNo.TheVariants.{Fault, Refused as LinkRefused, Want}
 use Rattle.broker_link.proofs.Answered.{parts_counted}
+use Rattle.broker_link.proofs.KeptTopics.{had_topic, has_still}
 use Rattle.rest_calls.specs.Views.{batch_of, given_of, NamesPartition}
 use Rattle.rest_calls.specs.declared.call.Row.{Row}
 use Rattle.rest_calls.specs.declared.call.Batch.{Batch as Sent}
@@ -30,32 +31,7 @@ use Rattle.rest_replies.specs.declared.answer.Told.{Told}
 use Rattle.producer.proofs.Counting.{within, outside}
 use Rattle.producer.proofs.Places.{named_chosen}
 
--- a log that was kept has the same topics
-named_as : (a b : List Topic) (name : List ℕ) → shape_of (record { topics = b; committed = λ g at. None; others = 0 }) ≡ shape_of (record { topics = a; committed = λ g at. None; others = 0 })
-    → list_any (λ t. bytes_eq t.name name) b ≡ list_any (λ t. bytes_eq t.name name) a
-named_as [] [] name e = refl
-named_as [] (y ∷ ys) name e = absurd (cc e)
-named_as (x ∷ xs) [] name e = absurd (cc e)
-named_as (x ∷ xs) (y ∷ ys) name e =
-    let f : Topic → List ℕ × ℕ = λ t. (t.name, length t.parts) in
-    let pair : f y ≡ f x = cc e in
-    let names : y.name ≡ x.name = ap (λ (p : List ℕ × ℕ). p.0) pair in
-    let rest : map f ys ≡ map f xs = cc e in
-    let ih : list_any (λ (t : Topic). bytes_eq t.name name) ys ≡ list_any (λ (t : Topic). bytes_eq t.name name) xs = named_as xs ys name rest in
-    go (bytes_eq x.name name) refl (ap (λ n. bytes_eq n name) names) ih
-  where
-    go : (b : Bool) → bytes_eq x.name name ≡ b → bytes_eq y.name name ≡ bytes_eq x.name name
-        → list_any (λ (t : Topic). bytes_eq t.name name) ys ≡ list_any (λ (t : Topic). bytes_eq t.name name) xs
-        → list_any (λ (t : Topic). bytes_eq t.name name) (y ∷ ys) ≡ list_any (λ (t : Topic). bytes_eq t.name name) (x ∷ xs)
-    go true e f ih = let g : bytes_eq y.name name ≡ true = f ∙ e in rw (e, g) refl
-    go false e f ih = let g : bytes_eq y.name name ≡ false = f ∙ e in rw (e, g) ih
-
-had_topic : (a m : Log) (topic : List ℕ) → Keeps a m → HasTopic m topic → HasTopic a topic
-had_topic a m topic keeps has = sym (named_as a.topics m.topics topic keeps.shape) ∙ has
-
-has_topic_still : (a m : Log) (topic : List ℕ) → Keeps a m → HasTopic a topic → HasTopic m topic
-has_topic_still a m topic keeps had = named_as a.topics m.topics topic keeps.shape ∙ had
-
+-- a log that was kept has as many partitions of each topic
 same_parts : (a m : Log) (topic : List ℕ) → Keeps a m → parts_of m topic ≡ parts_of a topic
 same_parts a m topic keeps = parts_counted a.topics m.topics topic keeps.shape
 
@@ -97,7 +73,7 @@ ends_answered a m b topic batch n told keeps none count is named answered =
     })
 
 pub ends_unknown_topic : (a m : Log) (topic : List ℕ) (batch : Sent) → Keeps a m → NoneAdded a m → IsCount m topic None → ProduceEnds a m topic (batch_of batch) (Some (Refused 40401))
-ends_unknown_topic a m topic batch keeps none count = inr (inl (λ has. count (has_topic_still a m topic keeps has), none, refl))
+ends_unknown_topic a m topic batch keeps none count = inr (inl (λ has. count (has_still a m topic keeps has), none, refl))
 
 pub ends_unknown_partition : (a m : Log) (topic : List ℕ) (batch : Sent) (n : ℕ) → Keeps a m → NoneAdded a m → IsCount m topic (Some n) → are_within n batch.rows ≡ false
     → ProduceEnds a m topic (batch_of batch) (Some (Refused 40402))

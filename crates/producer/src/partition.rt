@@ -1,5 +1,5 @@
 ghost use Rattle.std.specs.Prelude.{◌≡◌, ◌<◌, ◌++◌, ℕ, List, length, option_map};
-ghost use Rattle.model.specs.state.Hashes.{ended, mixed, murmur2, murmur_end, murmur_on, partition_of, stirred, times};
+ghost use Rattle.model.specs.state.Hashes.{mixed, murmur2, murmur_end, murmur_on, partition_of};
 
 const TIMES: u32 = 0x5bd1_e995;
 
