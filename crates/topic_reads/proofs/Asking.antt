@@ -1,12 +1,12 @@
 -- From an answer and the text of its reply to what a question owes.
-use Rattle.std.proofs.Common.{◌≡◌, ℕ, List, [], ◌∷◌, map, refl, ap, sym, subst, ◌∙◌, inl, inr, true, false, Option, Some, None, Result, Ok, Err}
-use Rattle.std.specs.Prelude.{◌⊎◌, ⊤, All, IfErr, IfOk}
+use Rattle.std.proofs.Common.{◌≡◌, ℕ, List, [], ◌∷◌, map, refl, ap, sym, subst, inl, inr, false, Some, Result, Ok, Err}
+use Rattle.std.specs.Prelude.{◌⊎◌, All, IfErr, IfOk}
 use Rattle.std.proofs.lemmas.List.Elements.{All-cons, All-nil, All-head, All-tail}
 use Rattle.model.specs.state.Forms.{Forms}
-use Rattle.model.specs.state.Log.{IsLog, Log}
-use Rattle.model.specs.state.Entry.{PartTold, Question as Asked, Reply as Said}
+use Rattle.model.specs.state.Log.{IsLog}
+use Rattle.model.specs.state.Entry.{PartTold, Question as Asked}
 use Rattle.model.specs.state.Entry.Call.{Ask}
-use Rattle.model.specs.state.Entry.Reply.{Refused as Lacking, Told, Want as NoMemory}
+use Rattle.model.specs.state.Entry.Reply.{Refused as Lacking, Want as NoMemory}
 use Rattle.model.specs.step.Step.{IsAnswered}
 use Rattle.model.specs.history.Legal.{is_fault, is_refusal}
 use Rattle.model.specs.texts.Texts.{response_of}
@@ -19,7 +19,6 @@ use Rattle.broker_link.specs.declared.link.PartInfo.{PartInfo}
 use Rattle.rest_calls.specs.Questions.{question_of}
 use Rattle.rest_calls.specs.Responses.{response_in}
 use Rattle.rest_calls.specs.declared.question.Question.{Question}
-use Rattle.rest_calls.specs.declared.question.Question.TheVariants as question
 use Rattle.rest_codes.specs.declared.response.Reply.{Reply}
 use Rattle.rest_codes.specs.declared.response.Reply.TheVariants as reply
 use Rattle.rest_replies.specs.Failure.{SaysOrWant}

@@ -1,10 +1,10 @@
 -- From calls of the link to what a question is answered.
-use Rattle.std.proofs.Common.{◌≡◌, ℕ, zero, suc, ◌+◌, ◌-◌, ◌<◌, ◌≤◌, ℤ, Bool, true, false, List, [], ◌∷◌, length, map, refl, ap, sym, subst, ◌∙◌, inl, inr, arith, Option, Some, None, Result, Ok, Err}
-use Rattle.std.specs.Prelude.{◌<ℤ◌, pos, nat_abs, All, AllPairs, IfErr, slice_get}
-use Rattle.std.specs.List.{position, position_or_len}
+use Rattle.std.proofs.Common.{◌≡◌, ℕ, suc, ◌-◌, ℤ, Bool, true, false, List, [], ◌∷◌, map, refl, sym, subst, ◌∙◌, inl, inr, arith, Some, None, Ok}
+use Rattle.std.specs.Prelude.{◌<ℤ◌, nat_abs, AllPairs, slice_get}
+use Rattle.std.specs.List.{position}
 use Rattle.std.proofs.lemmas.Bool.Decides.{nat_tests}
 use Rattle.std.proofs.lemmas.Grind.{common_steps}
-use Rattle.model.specs.state.Log.{TopicPart, Log, IsLog, Keeps, Between, part_at}
+use Rattle.model.specs.state.Log.{TopicPart, Log, IsLog, Keeps}
 use Rattle.model.specs.state.World.Edge.{Start, End}
 use Rattle.model.specs.state.Entry.{Question as Asked, Reply}
 use Rattle.model.specs.state.Entry.Question.{Brokers as AllBrokers, Topics as AllTopics, OneTopic, Parts, OnePart, EndOffsets as Edges}
@@ -14,24 +14,24 @@ use Rattle.rest_calls.specs.declared.question.Question.{Question}
 use Rattle.rest_calls.specs.declared.question.Question.TheVariants as question
 use Rattle.topic_reads.proofs.Names.{names_told}
 use Rattle.model.specs.step.Fixed.{HasPart, edge_of}
-use Rattle.model.specs.step.Step.{HasTopic, IsAnswered, Tells}
+use Rattle.model.specs.step.Step.{IsAnswered, Tells}
 use Rattle.model.proofs.Stretches.{keeps_itself}
 use Rattle.broker_link.specs.Causes as causes
 use Rattle.broker_link.specs.Causes.{Counts}
 use Rattle.broker_link.specs.Fetching.{IsEdge}
-use Rattle.broker_link.specs.Metadata.{IsMetadata, NumberedFrom}
+use Rattle.broker_link.specs.Metadata.{IsMetadata}
 use Rattle.broker_link.specs.Replies.{CountsKept, link_reply}
 use Rattle.broker_link.specs.declared.link.LinkNo.{LinkNo}
 use Rattle.broker_link.proofs.CountedLemmas.{comes_on, links}
 use Rattle.broker_link.specs.declared.link.PartInfo.{PartInfo}
 use Rattle.broker_link.specs.declared.link.TopicInfo.{TopicInfo}
 use Rattle.rest_replies.specs.Found.{name_in, reply_in, told_in}
-use Rattle.topic_reads.specs.Finding.{ComesOf, FindsEdges, FindsPart, FindsTopic, Lacks, is_numbered, part_of}
+use Rattle.topic_reads.specs.Finding.{ComesOf, FindsEdges, FindsPart, FindsTopic, is_numbered, part_of}
 use Rattle.rest_replies.specs.declared.found.Found.{Found}
 use Rattle.rest_replies.specs.declared.found.Found.TheVariants as found
 use Rattle.rest_replies.specs.declared.found.AskNo.{AskNo}
 use Rattle.rest_replies.specs.declared.found.AskNo.TheVariants.{NoTopic, NoPartition, Link}
-use Rattle.topic_reads.proofs.Topics.{part_gone, part_there, tells_parts}
+use Rattle.topic_reads.proofs.Topics.{tells_parts}
 
 -- ---- the place of a partition among those told
 

@@ -1,5 +1,5 @@
 -- The names that metadata of all topics tells are those of the log, each once.
-use Rattle.std.proofs.Common.{◌≡◌, ℕ, zero, suc, ◌+◌, ◌<◌, ◌≤◌, Bool, true, false, List, [], ◌∷◌, length, map, get_or, refl, ap, sym, subst, ◌∙◌, inl, inr, arith, Ordering, Less, Equal, Greater, None}
+use Rattle.std.proofs.Common.{◌≡◌, ℕ, zero, suc, ◌<◌, true, false, List, [], ◌∷◌, length, map, get_or, refl, ap, sym, subst, ◌∙◌, inl, inr, arith, Ordering, Less, Equal, Greater, None}
 use Rattle.std.specs.Prelude.{◌⊎◌, All, AllPairs, Contains, IsPermutation, bytes_eq}
 use Rattle.std.specs.Ordering.{is_eq, is_lt, nat_cmp}
 use Rattle.std.specs.Cmp.Lexicographic.{slice_cmp}

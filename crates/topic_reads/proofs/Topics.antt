@@ -1,12 +1,9 @@
 -- From the metadata of a topic to what an earlier log has of it.
-use Rattle.std.proofs.Common.{◌≡◌, ℕ, zero, suc, ◌+◌, ◌<◌, ◌≤◌, Bool, true, false, cond, List, [], ◌∷◌, length, map, refl, ap, sym, subst, ◌∙◌, arith, Option, Some, None}
-use Rattle.std.specs.Prelude.{ℤ, ◌≤ℤ◌, pos, negsuc, nat_abs, All, AllPairs, Contains, filter, bytes_eq, slice_get}
-use Rattle.std.specs.List.{list_any, position}
-use Rattle.std.specs.Ordering.{int_eq}
-use Rattle.std.proofs.lemmas.Slice.Eq.{bytes_eq-Decides}
-use Rattle.std.proofs.lemmas.List.Elements.{All-cons, All-nil, All-head, All-tail}
-use Rattle.std.proofs.lemmas.Bool.Decides.{Decides-int_eq, nat_tests}
-use Rattle.model.specs.state.Log.{Topic, TopicPart, Log, IsLog, Keeps, parts_in, shape_of}
+use Rattle.std.proofs.Common.{◌≡◌, ℕ, ◌+◌, ◌<◌, ◌≤◌, Bool, true, false, List, [], ◌∷◌, length, map, refl, ap, sym, subst, ◌∙◌, arith, Some, None}
+use Rattle.std.specs.Prelude.{ℤ, ◌≤ℤ◌, pos, negsuc, nat_abs, All, Contains, filter, bytes_eq, slice_get}
+use Rattle.std.proofs.lemmas.List.Elements.{All-head, All-tail}
+use Rattle.std.proofs.lemmas.Bool.Decides.{Decides-int_eq}
+use Rattle.model.specs.state.Log.{Topic, TopicPart, Log, IsLog, Keeps}
 use Rattle.model.specs.step.Fixed.{HasPart}
 use Rattle.model.specs.step.Step.{HasTopic, TellsParts, numbers, parts_of}
 use Rattle.model.specs.state.Entry.{PartTold}
