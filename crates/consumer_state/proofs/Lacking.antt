@@ -1,11 +1,11 @@
 -- From the metadata of one topic after another to what is lacking first.
 use Rattle.std.proofs.Common.{◌≡◌, ℕ, zero, suc, ◌+◌, ◌<◌, ◌≤◌, Bool, true, false, cond, nat_lt, List, [], ◌∷◌, length, map, take, get_or, refl, ap, sym, subst, ◌∙◌, arith, Option, Some, None, Result, Ok, Err}
-use Rattle.std.specs.Prelude.{IfErr, ◌&&◌, not, All, AllPairs, Contains, filter, bytes_eq}
+use Rattle.std.specs.Prelude.{IfErr, ◌&&◌, not, All, Contains, bytes_eq}
 use Rattle.std.specs.List.{list_any}
 use Rattle.std.proofs.lemmas.Slice.Eq.{bytes_eq-Decides}
 use Rattle.std.proofs.lemmas.List.{get_or-map, length-map}
 use Rattle.std.proofs.lemmas.List.Elements.{All-cons, All-head, All-nil, All-tail, All-more}
-use Rattle.model.specs.state.Log.{Topic, TopicPart, Log, IsLog, Keeps, shape_of, parts_in}
+use Rattle.model.specs.state.Log.{TopicPart, Log, Keeps, parts_in}
 use Rattle.model.specs.step.Fixed.{HasPart}
 use Rattle.model.specs.step.Rules.{lacking}
 use Rattle.std.proofs.lemmas.Bool.Decides.{nat_tests}

@@ -1,5 +1,5 @@
 -- From what one call of a link leaves to what several leave.
-use Rattle.std.proofs.Common.{◌≡◌, refl, ◌∙◌, arith, Result, Ok, Err}
+use Rattle.std.proofs.Common.{refl, ◌∙◌, arith, Result, Ok, Err}
 use Rattle.std.specs.Prelude.{IfOk}
 use Rattle.model.specs.state.Log.{Log, Keeps}
 use Rattle.model.specs.step.Fixed.{SameCommits}

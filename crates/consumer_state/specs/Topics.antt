@@ -1,5 +1,5 @@
 -- Which topics and partitions of a list are lacking, by the metadata of one topic after another (Confluent REST Proxy API v2, assignments).
-use Rattle.std.specs.Prelude.{ℕ, ⊤, ◌+◌, ◌≡◌, ◌&&◌, not, nat_lt, Bool, cond, List, [], ◌∷◌, length, All, bytes_eq, Option, Some, None, Result, Ok, Err, take}
+use Rattle.std.specs.Prelude.{ℕ, ⊤, ◌+◌, ◌≡◌, ◌&&◌, not, nat_lt, Bool, cond, List, length, All, bytes_eq, Option, Some, None, Result, Ok, Err, take}
 use Rattle.std.specs.List.{list_any}
 use Rattle.model.specs.state.Log.{TopicPart, Log, parts_in}
 use Rattle.model.specs.step.Rules.{lacking}
