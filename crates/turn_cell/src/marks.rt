@@ -30,7 +30,8 @@ impl Stands for Marks {
 }
 
 impl Marks {
-    pub(crate) fn add(&mut self, mark: Mark)
+    /// Adds a mark, or notes that there is no room for it.
+    pub fn add(&mut self, mark: Mark)
         ensures { self.new.full ≡ false → (self.old.full ≡ false) × (self.new.marks.items ≡ self.old.marks.items ++ mark ∷ []) }
     {
         if self.marks.len() < self.marks.capacity() {
