@@ -271,7 +271,7 @@ fn tells_the_edges_of_a_partition(rt: HostRuntime) -> Result<(), Failed> {
 }
 
 // Code 3 is UNKNOWN_TOPIC_OR_PARTITION.
-const LACKING: [(Step, &str); 6] = [
+const LACKING: [(Step, &str); 4] = [
     (Step::Fetch("u", 0, 0, 9), "Refused(3)"),
     (Step::Fetch("t", 2, 0, 9), "Refused(3)"),
     (Step::Edge("u", 0, Edge::End), "Refused(3)"),
