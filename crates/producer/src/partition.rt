@@ -23,8 +23,9 @@ fn behind_last(hash: u32, last: &[u8]) -> u32
         [a] => (hash ^ u32::from(*a)).wrapping_mul(TIMES),
         [a, b] => (hash ^ (u32::from(*b) << 8) ^ u32::from(*a)).wrapping_mul(TIMES),
         [a, b, c, ..] => {
-            (hash ^ (u32::from(*c) << 16) ^ (u32::from(*b) << 8) ^ u32::from(*a))
-                .wrapping_mul(TIMES)
+            (hash ^ (u32::from(*c) << 16) ^ (u32::from(*b) << 8) ^ u32::from(*a)).wrapping_mul(
+                TIMES,
+            )
         }
     }
 }

@@ -1,8 +1,8 @@
 //! Sessions of produces and consumers over two partitions of `orders`. The expected bodies are written by
 //! hand after docs/API.md.
 
-use broker_link::{Fail as LinkFail, MemLink};
 use crate::sessions::{WHOLE, story, text};
+use broker_link::{Fail as LinkFail, MemLink};
 use desk::AloneDesk;
 use gate_io::{Items, MemClock, MemSink, MemSource, Text};
 use http_conn::ConnNo;
