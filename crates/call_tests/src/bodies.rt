@@ -31,7 +31,12 @@ const NAMED: &str = "/consumers/a.b_c-9Z/instances/-/records";
 const PLACES: [(&str, &str, &str, &str); 16] = [
     ("GET", "/consumers/g", "", "405 9"),
     ("PUT", "/topics/t", "", "405 3"),
-    ("POST", "/topics/t/partitions/0", "", "404 Not found."),
+    (
+        "POST",
+        "/topics/t/partitions/0",
+        "",
+        "415 Unsupported media type.",
+    ),
     ("GET", "/brokers", "x=%", "brokers"),
     ("GET", "/topics", "", "topics"),
     ("GET", "/topics/t", "", "topic t"),

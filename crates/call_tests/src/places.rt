@@ -23,6 +23,7 @@ fn topic_name_of(ask: TopicAsk) -> &'static str {
 
 fn partition_name_of(ask: PartitionAsk) -> &'static str {
     match ask {
+        PartitionAsk::Produce => "produce to",
         PartitionAsk::Description => "partition",
         PartitionAsk::EndOffsets => "offsets",
     }
@@ -71,7 +72,7 @@ fn places_are(rt: &impl Abort, alloc: Global, cases: &[(&str, &str, &str)]) -> R
     Ok(())
 }
 
-const PLACES: [(&str, &str, &str); 25] = [
+const PLACES: [(&str, &str, &str); 26] = [
     ("GET", "/brokers", "brokers"),
     ("GET", "/topics", "topics"),
     ("GET", "/topics/t", "description t"),
@@ -85,6 +86,11 @@ const PLACES: [(&str, &str, &str); 25] = [
         "partition t 2147483647",
     ),
     ("GET", "/topics/t/partitions/1/offsets", "offsets t 1"),
+    (
+        "POST",
+        "/topics/t/partitions/2147483647",
+        "produce to t 2147483647",
+    ),
     (
         "GET",
         "/topics/partitions/partitions/2/offsets",
@@ -155,8 +161,7 @@ fn a_path_without_the_method_tells_its_first_place(rt: HostRuntime) -> Result<()
 }
 
 // Places of the reference that no call stands for yet.
-const UNBUILT: [(&str, &str, &str); 8] = [
-    ("POST", "/topics/t/partitions/2147483647", "none"),
+const UNBUILT: [(&str, &str, &str); 7] = [
     ("POST", "/consumers/g/instances/c/offsets", "none"),
     ("GET", "/consumers/g/instances/c/offsets", "none"),
     ("DELETE", "/consumers/g/instances/c/subscription", "none"),

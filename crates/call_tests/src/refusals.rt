@@ -13,7 +13,7 @@ const UNREAD: &str = "422 Body does not read.";
 
 // The bytes are those of coreutils' `base64 -d`; `+/8=` has the two characters that differ in the
 // alphabet for URLs.
-const READABLE: [(&[u8], &str); 12] = [
+const READABLE: [(&[u8], &str); 15] = [
     (ONE_RECORD, "t; 0 null #4b61666b61"),
     (
         b"{\"records\":[{\"value\":\"S2Fma2E=\",\"partition\":1},{\"value\":\"bm8=\",\"partition\":0},{\"partition\":1}]}",
@@ -28,6 +28,15 @@ const READABLE: [(&[u8], &str); 12] = [
         "t; 3 null null",
     ),
     (b"{\"records\":[{\"partition\":3}]}", "t; 3 null null"),
+    (b"{\"records\":[{}]}", "t; - null null"),
+    (
+        b"{\"records\":[{\"value\":\"S2Fma2E=\"},{\"key\":\"YWJj\",\"partition\":null},{\"partition\":1}]}",
+        "t; - null #4b61666b61; - #616263 null; 1 null null",
+    ),
+    (
+        b"{\"records\":[{\"partition\":0,\"partition\":null}]}",
+        "t; - null null",
+    ),
     (
         b"{\"records\":[{\"key\":\"\",\"value\":\"AA==\",\"partition\":0}]}",
         "t; 0 # #00",
@@ -63,7 +72,22 @@ fn reads_the_records_of_a_body(rt: HostRuntime) -> Result<(), Fail> {
     bodies_read_as(&rt, rt.alloc(), PRODUCE, &READABLE)
 }
 
-const UNREADABLE: [&[u8]; 22] = [
+const PRODUCE_TO: (&str, &str, &str) = ("POST", "/topics/t/partitions/7", BINARY);
+
+const READABLE_THERE: [(&[u8], &str); 2] = [
+    (ONE_RECORD, "t; 7 null #4b61666b61"),
+    (
+        b"{\"records\":[{\"key\":\"YWJj\"},{\"partition\":\"x\"},{\"partition\":2147483648}]}",
+        "t; 7 #616263 null; 7 null null; 7 null null",
+    ),
+];
+
+#[test]
+fn a_partition_that_is_named_is_ignored_at_another(rt: HostRuntime) -> Result<(), Fail> {
+    bodies_read_as(&rt, rt.alloc(), PRODUCE_TO, &READABLE_THERE)
+}
+
+const UNREADABLE: [&[u8]; 21] = [
     b"",
     b"null",
     b"[]",
@@ -75,7 +99,6 @@ const UNREADABLE: [&[u8]; 22] = [
     b"{\"records\":{\"partition\":0}}",
     b"{\"records\":[null]}",
     b"{\"records\":[[{\"partition\":0}]]}",
-    b"{\"records\":[{\"records\":[{\"partition\":0}]}]}",
     b"{\"Records\":[{\"partition\":0}]}",
     b"{\"records\":[{\"partition\":0}],\"records\":[]}",
     b"{\"records\":[{\"partition\":0}]}x",
@@ -93,10 +116,9 @@ fn refuses_a_body_without_records(rt: HostRuntime) -> Result<(), Fail> {
     bodies_all_read_as(&rt, rt.alloc(), PRODUCE, &UNREADABLE, UNREAD)
 }
 
-const BAD_MEMBERS: [&[u8]; 25] = [
-    b"{\"records\":[{\"partition\":0},{}]}",
-    b"{\"records\":[{\"partition\":0},{\"value\":\"S2Fma2E=\"}]}",
-    b"{\"records\":[{\"partition\":0},{\"partition\":null}]}",
+const BAD_MEMBERS: [&[u8]; 23] = [
+    b"{\"records\":[{\"partition\":0},5]}",
+    b"{\"records\":[{\"partition\":0},\"partition\"]}",
     b"{\"records\":[{\"partition\":0},{\"partition\":-1}]}",
     b"{\"records\":[{\"partition\":0},{\"partition\":-0}]}",
     b"{\"records\":[{\"partition\":0},{\"partition\":2147483648}]}",
@@ -107,7 +129,6 @@ const BAD_MEMBERS: [&[u8]; 25] = [
     b"{\"records\":[{\"partition\":0},{\"partition\":\"0\"}]}",
     b"{\"records\":[{\"partition\":0},{\"partition\":[0]}]}",
     b"{\"records\":[{\"partition\":0},{\"partition\":true}]}",
-    b"{\"records\":[{\"partition\":0},{\"partition\":0,\"partition\":null}]}",
     b"{\"records\":[{\"partition\":0},{\"partition\":0,\"value\":\"S2F\"}]}",
     b"{\"records\":[{\"partition\":0},{\"partition\":0,\"value\":\"S2Fma2E\"}]}",
     b"{\"records\":[{\"partition\":0},{\"partition\":0,\"value\":\"S2Fma2F=\"}]}",

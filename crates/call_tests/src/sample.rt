@@ -36,6 +36,7 @@ pub(crate) fn request_of(
         content_type,
         encoded: false,
         close: false,
+        expects: false,
         body: Items::from_slice(alloc, body.as_bytes())?,
     })
 }

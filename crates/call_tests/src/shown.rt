@@ -42,9 +42,12 @@ fn show_payload(alloc: Global, out: &mut String, payload: &Payload) -> Result<()
 /// Each record as its partition, key and value.
 fn show_rows(alloc: Global, out: &mut String, rows: &[Row]) -> Result<(), AllocError> {
     for row in rows {
-        if let Some(partition) = row.partition {
-            let text = format!(in alloc; "; {partition} ")?;
-            out.push_str(text.as_str())?;
+        match row.partition {
+            Some(partition) => {
+                let text = format!(in alloc; "; {partition} ")?;
+                out.push_str(text.as_str())?;
+            }
+            None => out.push_str("; - ")?,
         }
         show_payload(alloc, out, &row.key)?;
         out.push_str(" ")?;

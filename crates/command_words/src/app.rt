@@ -1,10 +1,31 @@
-ghost use Rattle.std.specs.Prelude.{◌≡◌, ◌≢◌, None, IfOk, codes, map, option_map, string_bytes};
-ghost use Rattle.clap.specs.Words.{all_of, app_of, first_of, found_of, kind_of, rows_of};
-ghost use Rattle.command_words.specs.Apps.{rows_in, session_app};
+ghost use Rattle.std.specs.Prelude.{◌≡◌, ◌≢◌, false, None, IfOk, codes, map, option_map, string_bytes};
+ghost use Rattle.clap.specs.Words.{all_of, app_of, first_of, found_of, kind_of, new_app, rows_of, rule_of};
+ghost use Rattle.command_words.specs.Apps.{bare, rows_in, session_app, topics};
 
 use clap::error::ErrorKind;
 use clap::{Arg, ArgAction, ArgMatches, Command, Error};
 use std::alloc::{AllocError, Global};
+
+/// A command of this name without options.
+fn bare<'a>(alloc: Global, name: &'a str) -> Command<'a>
+    ensures { app_of result ≡ bare (new_app name.entry.now) }
+{
+    Command::new(alloc, name)
+        .no_binary_name(true)
+        .disable_help_flag(true)
+        .disable_version_flag(true)
+}
+
+/// The words that aren't options.
+fn topics_option<'a>(alloc: Global) -> Arg<'a>
+    ensures rule { rule_of result ≡ topics }
+    ensures local { result.global ≡ false }
+{
+    Arg::new(alloc, "topics")
+        .action(ArgAction::Append)
+        .num_args(1..)
+        .required(true)
+}
 
 /// The options and topics of `session`.
 fn session_app<'a>(alloc: Global) -> Result<Command<'a>, AllocError>
@@ -13,16 +34,8 @@ fn session_app<'a>(alloc: Global) -> Result<Command<'a>, AllocError>
     let advertise = Arg::new(alloc, "advertise")
         .long("advertise")
         .action(ArgAction::Set);
-    let topics = Arg::new(alloc, "topics")
-        .action(ArgAction::Append)
-        .num_args(1..)
-        .required(true);
-    let command = Command::new(alloc, "session")
-        .no_binary_name(true)
-        .disable_help_flag(true)
-        .disable_version_flag(true);
-    let command = command.arg(advertise)?;
-    command.arg(topics)
+    let command = bare(alloc, "session").arg(advertise)?;
+    command.arg(topics_option(alloc))
 }
 
 /// The words that aren't those of a session, or want of memory.

@@ -5,7 +5,7 @@ use Rattle.model.specs.state.Entry.{Act, Call}
 use Rattle.model.specs.state.Entry.Act.{Create}
 use Rattle.model.specs.state.Entry.Call.{Of}
 use Rattle.rest_calls.specs.Views.{counted, entered, given_name, is_unnamed, key_in}
-use Rattle.rest_calls.specs.Views.{asked_of, NamesPartitions}
+use Rattle.rest_calls.specs.Views.{asked_of, PartitionsFit}
 use Rattle.rest_calls.specs.declared.call.Batch.{Batch}
 use Rattle.rest_calls.specs.declared.call.Call.{Call as Call2}
 use Rattle.rest_calls.specs.declared.question.Question.{Question}
@@ -20,8 +20,8 @@ named_enters caller (Of key (Create settings)) names_given count name is once gi
 named_enters caller call names_given count name is once given = absurd (cc is)
 
 -- a produce enters as it is
-pub named_still : (call named : Call2) (names_given : ℕ) → asked_of named ≡ entered 0 names_given (asked_of call) → (is_unnamed (asked_of call) ≡ false → named ≡ call) → NamesPartitions call → NamesPartitions named
-named_still (sent.Produce topic batch) named names_given is same holds = subst NamesPartitions (sym (same refl)) holds
+pub named_still : (call named : Call2) (names_given : ℕ) → asked_of named ≡ entered 0 names_given (asked_of call) → (is_unnamed (asked_of call) ≡ false → named ≡ call) → PartitionsFit call → PartitionsFit named
+named_still (sent.Produce topic batch) named names_given is same holds = subst PartitionsFit (sym (same refl)) holds
 named_still call (sent.Produce topic batch) names_given is same holds = absurd (cc is)
 named_still call named names_given is same holds = tt
 

@@ -7,7 +7,7 @@ ghost use Rattle.model.specs.state.Entry.{Act};
 ghost use Rattle.model.specs.state.Entry.Call.{Ask, Of, Produce};
 ghost use Rattle.rest_calls.specs.Questions.{question_of};
 ghost use Rattle.rest_calls.specs.Responses.{response_in};
-ghost use Rattle.rest_calls.specs.Views.{asked_of, batch_of, entered, HasFewRecords, HasRecords, NamesPartition, NamesPartitions};
+ghost use Rattle.rest_calls.specs.Views.{asked_of, batch_of, entered, HasFewRecords, HasRecords, PartitionFits, PartitionsFit};
 ghost use Rattle.desk.specs.Shelf.{world_in};
 ghost use Rattle.desk.specs.Step.{no_expiry};
 ghost use Rattle.desk.specs.Runs.{IsTurn, ShardAnswered, ShardAnswers, Stays, named_after, state_of};
@@ -161,7 +161,7 @@ impl<L: Link + Drop> AloneDesk<L> {
     ) -> Reply
         requires some { 0 < length batch.rows }
         requires few { length batch.rows < 2 ^ 63 }
-        requires named { All NamesPartition batch.rows }
+        requires fit { All PartitionFits batch.rows }
         requires whose { asked_of asked.value ≡ Produce topic.now (batch_of batch) }
         ensures answered { ShardAnswers L.stand C.tells C.hand self.old.shard clock.old (Produce topic.now (batch_of batch)) (response_in result) self.new.shard clock.new }
         ensures names_given { self.new.names_given ≡ self.old.names_given }
@@ -183,7 +183,7 @@ impl<L: Link + Drop> AloneDesk<L> {
     pub fn answer<C: Clock>(&mut self, alloc: Global, clock: &mut C, call: Call) -> Reply
         requires some { HasRecords call }
         requires few { HasFewRecords call }
-        requires named { NamesPartitions call }
+        requires fit { PartitionsFit call }
         ensures answered { (L.stand self.old.shard.link).tells → IsLog (L.stand self.old.shard.link).log
             → ShardAnswered L.stand C.tells C.hand self.old.shard clock.old (entered 0 self.old.names_given (asked_of call)) (response_in result) self.new.shard clock.new
             ⊎ Stays result self.old.shard self.new.shard clock.old clock.new }

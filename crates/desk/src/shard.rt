@@ -6,7 +6,7 @@ ghost use Rattle.model.specs.state.Entry.Call.{Ask, Of, Produce};
 ghost use Rattle.model.specs.history.Noted.{EndsInLook};
 ghost use Rattle.rest_calls.specs.Questions.{question_of};
 ghost use Rattle.rest_calls.specs.Responses.{response_in};
-ghost use Rattle.rest_calls.specs.Views.{asked_of, batch_of, is_unnamed, NamesPartition};
+ghost use Rattle.rest_calls.specs.Views.{asked_of, batch_of, is_unnamed, PartitionFits};
 ghost use Rattle.instance.specs.Passing.{Consults};
 ghost use Rattle.instance.specs.Views.{events_in, said_in};
 ghost use Rattle.desk.specs.Keys.{consumer_key};
@@ -237,7 +237,7 @@ impl<L: Link + Drop> Shard<L> {
     ) -> Entry
         requires some { 0 < length batch.rows }
         requires few { length batch.rows < 2 ^ 63 }
-        requires named { All NamesPartition batch.rows }
+        requires fit { All PartitionFits batch.rows }
         requires whose { asked_of asked.value ≡ Produce topic.now (batch_of batch) }
         ensures steps { ShardSteps L.stand self.old (noted result) self.new }
 

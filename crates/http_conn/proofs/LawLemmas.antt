@@ -1,5 +1,6 @@
 -- The cases of the definition exclude one another, and each is fixed by its bytes.
-use Rattle.std.proofs.Common.{◌≡◌, ℕ, ◌+◌, ◌-◌, ◌<◌, ◌≤◌, true, List, [], ◌∷◌, ◌++◌, length, take, Result, Ok, Err, refl, ap, sym, subst, ◌∙◌, arith, append_assoc, length-append, inl, inr, codes}
+use Rattle.std.proofs.Common.{◌≡◌, ℕ, ◌+◌, ◌-◌, ◌<◌, ◌≤◌, Bool, true, false, List, [], ◌∷◌, ◌++◌, length, take, Result, Ok, Err, refl, ap, sym, subst, ◌∙◌, arith, append_assoc, length-append, inl, inr, codes}
+use Rattle.std.specs.Prelude.{◌&&◌}
 use Rattle.std.specs.List.{before_first, after_first, list_any}
 use Rattle.std.proofs.lemmas.List.Elements.{All-nil, All-cons, All-take}
 use Rattle.std.proofs.Math.Seq.{take-append_seam, take-append-add}
@@ -8,9 +9,9 @@ use Rattle.std.proofs.lemmas.Str.Ascii.{IsAscii-cons, IsAscii-nil}
 use Rattle.httparse.specs.Grammar.{RequestHead, IsRequestHead, ReadsRequest, print_request, LineEnd, print_blank, lf, MayBecomeRequest, NeverHasRequest, EndsInTarget, IsField, IsToken, is_token_byte, is_uri_byte}
 use Rattle.httparse.proofs.GrammarLemmas.{request_unique, print_request-append}
 use Rattle.http_head.specs.Asked.{asked_in}
-use Rattle.http_head.specs.Fields.{values_of, joined, is_encoding, asks_close}
-use Rattle.http_conn.specs.Stream.{HasBody, IsBadPlace, IsBad, IsHopeless, IsTooLong, IsCut, IsRequest, is_mark}
-use Rattle.http_head.specs.Head.{HasHead, IsRefused, frame, fields_of}
+use Rattle.http_head.specs.Fields.{values_of, joined, is_encoding, asks_close, asks_interim}
+use Rattle.http_conn.specs.Stream.{DueIs, HasBody, IsBadHead, IsBadPlace, IsBad, IsDue, IsHopeless, IsTooLong, IsCut, IsRequest, is_mark}
+use Rattle.http_head.specs.Head.{HasHead, HasNoHead, IsRefused, awaits, frame, fields_of, tells_body}
 use Rattle.http_head.specs.declared.fields.Framing.{Framing}
 use Rattle.body_read.specs.Chunks.{Outcome}
 use Rattle.body_read.specs.Body.{BodyIs}
@@ -19,7 +20,7 @@ use Rattle.httparse.proofs.OpenLemmas.{letter_is_token}
 use Rattle.rest_codes.specs.declared.response.Reply.{Reply}
 use Rattle.rest_codes.specs.Errors.{refusal_of}
 use Rattle.std.proofs.lemmas.Bool.{cases_lt}
-use Rattle.http_conn.specs.Next.{Gives}
+use Rattle.http_conn.specs.Next.{Gives, IsSettled}
 use Rattle.http_conn.specs.declared.request.Request.{Request}
 use Rattle.http_conn.specs.declared.request.Next.{Next}
 use Rattle.http_conn.specs.declared.request.Next.TheVariants as next
@@ -118,7 +119,8 @@ one_request all r q rest rest2 is are =
     is.asks.content_type ∙ ap (λ (h : RequestHead). joined (values_of (codes "content-type") (fields_of h))) same.0 ∙ sym are.asks.content_type in
     let coded : r.encoded ≡ q.encoded =
     is.asks.encoded ∙ ap (λ (h : RequestHead). list_any is_encoding (values_of (codes "content-encoding") (fields_of h))) same.0 ∙ sym are.asks.encoded in
-    let closes : r.close ≡ q.close = is.asks.close ∙ ap (λ (h : RequestHead). asks_close h.minor (fields_of h)) same.0 ∙ sym are.asks.close in (
+    let closes : r.close ≡ q.close = is.asks.close ∙ ap (λ (h : RequestHead). asks_close h.minor (fields_of h)) same.0 ∙ sym are.asks.close in
+    let expects : r.expects ≡ q.expects = is.asks.expects ∙ ap awaits same.0 ∙ sym are.asks.expects in (
       λ i. record {
         method = method i;
         path = path i;
@@ -127,6 +129,7 @@ one_request all r q rest rest2 is are =
         content_type = kind i;
         encoded = coded i;
         close = closes i;
+        expects = expects i;
         body = both.0 i;
       },
       both.1,
@@ -142,24 +145,24 @@ lost_may_not all lost (inr ends) =
 
 -- a place has one of the three, and some byte
 pub no_bad_request : (all : List ℕ) (r : Request) (rest : List ℕ) (code : ℕ) → IsRequest all r rest → IsBadPlace all code → ⊥
-no_bad_request all r rest code is (inl refused) = not_refused all (Outcome.Whole r.body rest) code is.whole refused
-no_bad_request all r rest code is (inr (inl full)) = body_not_long all (Outcome.Whole r.body rest) is.whole full.0
-no_bad_request all r rest code is (inr (inr (inl lost))) = body_not_lost all (Outcome.Whole r.body rest) is.whole lost.0
-no_bad_request all r rest code is (inr (inr (inr body))) = absurd (cc (one_outcome all (Outcome.Whole r.body rest) (Outcome.Refused code) is.whole body))
+no_bad_request all r rest code is (inl (inl refused)) = not_refused all (Outcome.Whole r.body rest) code is.whole refused
+no_bad_request all r rest code is (inl (inr (inl full))) = body_not_long all (Outcome.Whole r.body rest) is.whole full.0
+no_bad_request all r rest code is (inl (inr (inr lost))) = body_not_lost all (Outcome.Whole r.body rest) is.whole lost.0
+no_bad_request all r rest code is (inr body) = absurd (cc (one_outcome all (Outcome.Whole r.body rest) (Outcome.Refused code) is.whole body))
 
 pub no_cut_request : (all : List ℕ) (r : Request) (rest : List ℕ) → IsRequest all r rest → IsCut all → ⊥
 no_cut_request all r rest is (inl body) = absurd (cc (one_outcome all (Outcome.Whole r.body rest) Outcome.Short is.whole body))
 no_cut_request all r rest is (inr head) = head.none is.whole.head is.whole.after is.whole.at
 
 pub no_bad_cut : (all : List ℕ) (code : ℕ) → IsBadPlace all code → IsCut all → ⊥
-no_bad_cut all code (inl refused) (inl body) = not_refused all Outcome.Short code body refused
-no_bad_cut all code (inl refused) (inr head) = head.none refused.head refused.after refused.at
-no_bad_cut all code (inr (inl full)) (inl body) = body_not_long all Outcome.Short body full.0
-no_bad_cut all code (inr (inl full)) (inr head) = absurd (omega (arith, full.0.long, head.short))
-no_bad_cut all code (inr (inr (inl lost))) (inl body) = body_not_lost all Outcome.Short body lost.0
-no_bad_cut all code (inr (inr (inl lost))) (inr head) = lost_may_not all lost.0 head.may
-no_bad_cut all code (inr (inr (inr bad))) (inl body) = absurd (cc (one_outcome all (Outcome.Refused code) Outcome.Short bad body))
-no_bad_cut all code (inr (inr (inr bad))) (inr head) = head.none bad.head bad.after bad.at
+no_bad_cut all code (inl (inl refused)) (inl body) = not_refused all Outcome.Short code body refused
+no_bad_cut all code (inl (inl refused)) (inr head) = head.none refused.head refused.after refused.at
+no_bad_cut all code (inl (inr (inl full))) (inl body) = body_not_long all Outcome.Short body full.0
+no_bad_cut all code (inl (inr (inl full))) (inr head) = absurd (omega (arith, full.0.long, head.short))
+no_bad_cut all code (inl (inr (inr lost))) (inl body) = body_not_lost all Outcome.Short body lost.0
+no_bad_cut all code (inl (inr (inr lost))) (inr head) = lost_may_not all lost.0 head.may
+no_bad_cut all code (inr bad) (inl body) = absurd (cc (one_outcome all (Outcome.Refused code) Outcome.Short bad body))
+no_bad_cut all code (inr bad) (inr head) = head.none bad.head bad.after bad.at
 
 -- what two refusals say, where they are one
 code_parts : (a b : ℕ) → Outcome.Refused a ≡ Outcome.Refused b → a ≡ b
@@ -167,26 +170,26 @@ code_parts a b is = cc
 
 -- a place is refused with one status
 pub one_status : (all : List ℕ) (a b : ℕ) → IsBadPlace all a → IsBadPlace all b → a ≡ b
-one_status all a b (inl refused) (inl other) =
+one_status all a b (inl (inl refused)) (inl (inl other)) =
     let same = request_unique all refused.head other.head refused.after other.after refused.at.reads other.at.reads in
     code_same (frame refused.head) a b refused.why (ap frame same.0 ∙ other.why)
-one_status all a b (inl refused) (inr (inl full)) = absurd (full.0.none refused.head refused.after refused.at)
-one_status all a b (inl refused) (inr (inr (inl lost))) =
+one_status all a b (inl (inl refused)) (inl (inr (inl full))) = absurd (full.0.none refused.head refused.after refused.at)
+one_status all a b (inl (inl refused)) (inl (inr (inr lost))) =
     absurd (lost.0.never lost.0.behind refused.head refused.after (subst (λ (l : List ℕ). ReadsRequest l refused.head refused.after) lost.0.parts refused.at.reads))
-one_status all a b (inl refused) (inr (inr (inr body))) = absurd (not_refused all (Outcome.Refused b) a body refused)
-one_status all a b (inr (inl full)) (inl refused) = absurd (full.0.none refused.head refused.after refused.at)
-one_status all a b (inr (inl full)) (inr (inl other)) = full.1 ∙ sym other.1
-one_status all a b (inr (inl full)) (inr (inr (inl lost))) = absurd (full.0.hope lost.0)
-one_status all a b (inr (inl full)) (inr (inr (inr body))) = absurd (body_not_long all (Outcome.Refused b) body full.0)
-one_status all a b (inr (inr (inl lost))) (inl refused) =
+one_status all a b (inl (inl refused)) (inr body) = absurd (not_refused all (Outcome.Refused b) a body refused)
+one_status all a b (inl (inr (inl full))) (inl (inl refused)) = absurd (full.0.none refused.head refused.after refused.at)
+one_status all a b (inl (inr (inl full))) (inl (inr (inl other))) = full.1 ∙ sym other.1
+one_status all a b (inl (inr (inl full))) (inl (inr (inr lost))) = absurd (full.0.hope lost.0)
+one_status all a b (inl (inr (inl full))) (inr body) = absurd (body_not_long all (Outcome.Refused b) body full.0)
+one_status all a b (inl (inr (inr lost))) (inl (inl refused)) =
     absurd (lost.0.never lost.0.behind refused.head refused.after (subst (λ (l : List ℕ). ReadsRequest l refused.head refused.after) lost.0.parts refused.at.reads))
-one_status all a b (inr (inr (inl lost))) (inr (inl full)) = absurd (full.0.hope lost.0)
-one_status all a b (inr (inr (inl lost))) (inr (inr (inl other))) = lost.1 ∙ sym other.1
-one_status all a b (inr (inr (inl lost))) (inr (inr (inr body))) = absurd (body_not_lost all (Outcome.Refused b) body lost.0)
-one_status all a b (inr (inr (inr body))) (inl refused) = absurd (not_refused all (Outcome.Refused a) b body refused)
-one_status all a b (inr (inr (inr body))) (inr (inl full)) = absurd (body_not_long all (Outcome.Refused a) body full.0)
-one_status all a b (inr (inr (inr body))) (inr (inr (inl lost))) = absurd (body_not_lost all (Outcome.Refused a) body lost.0)
-one_status all a b (inr (inr (inr body))) (inr (inr (inr other))) = code_parts a b (one_outcome all (Outcome.Refused a) (Outcome.Refused b) body other)
+one_status all a b (inl (inr (inr lost))) (inl (inr (inl full))) = absurd (full.0.hope lost.0)
+one_status all a b (inl (inr (inr lost))) (inl (inr (inr other))) = lost.1 ∙ sym other.1
+one_status all a b (inl (inr (inr lost))) (inr body) = absurd (body_not_lost all (Outcome.Refused b) body lost.0)
+one_status all a b (inr body) (inl (inl refused)) = absurd (not_refused all (Outcome.Refused a) b body refused)
+one_status all a b (inr body) (inl (inr (inl full))) = absurd (body_not_long all (Outcome.Refused a) body full.0)
+one_status all a b (inr body) (inl (inr (inr lost))) = absurd (body_not_lost all (Outcome.Refused a) body lost.0)
+one_status all a b (inr body) (inr other) = code_parts a b (one_outcome all (Outcome.Refused a) (Outcome.Refused b) body other)
 
 -- a place is refused with one reply
 pub one_reply : (all : List ℕ) (a b : Reply) → IsBad all a → IsBad all b → a ≡ b
@@ -220,36 +223,85 @@ nothing_may never =
     never (print_request head ++ []) head [] (is, refl)
 
 pub no_bad_of_nothing : (all : List ℕ) (code : ℕ) → all ≡ [] → IsBadPlace all code → ⊥
-no_bad_of_nothing all code none (inl refused) = no_head_of_nothing refused.head refused.after (subst (λ (l : List ℕ). HasHead l refused.head refused.after) none refused.at)
-no_bad_of_nothing all code none (inr (inl full)) = absurd (omega (arith, ap (length {A = ℕ}) none, full.0.long))
-no_bad_of_nothing all code none (inr (inr (inr body))) =
+no_bad_of_nothing all code none (inl (inl refused)) = no_head_of_nothing refused.head refused.after (subst (λ (l : List ℕ). HasHead l refused.head refused.after) none refused.at)
+no_bad_of_nothing all code none (inl (inr (inl full))) = absurd (omega (arith, ap (length {A = ℕ}) none, full.0.long))
+no_bad_of_nothing all code none (inr body) =
     no_head_of_nothing body.head body.after (subst (λ (l : List ℕ). HasHead l body.head body.after) none body.at)
-no_bad_of_nothing all code none (inr (inr (inl lost))) =
+no_bad_of_nothing all code none (inl (inr (inr lost))) =
     let front : lost.0.front ≡ [] = empty_front lost.0.front lost.0.behind (sym none ∙ lost.0.parts) in
     nothing_may (subst (λ (l : List ℕ). NeverHasRequest l) front lost.0.never)
 
-pub one_answer : (all : List ℕ) (a b : Next) (rest rest2 : List ℕ) → Gives all a rest → Gives all b rest2 → (a ≡ b) × (rest ≡ rest2)
-one_answer all (next.Ready r) (next.Ready q) rest rest2 first second =
-    let same = one_request all r q rest rest2 first second in
+-- a head that is read awaits the interim response as any that is read there
+pub awaits_same : (bytes : List ℕ) (h k : RequestHead) (after after2 : List ℕ) → HasHead bytes h after → HasHead bytes k after2 → awaits k ≡ true → awaits h ≡ true
+awaits_same bytes h k after after2 is are waits = ap awaits (request_unique bytes h k after after2 is.reads are.reads).0 ∙ waits
+
+-- a request says whether the interim response was due
+pub due_expects : (all : List ℕ) (r : Request) (rest : List ℕ) → IsRequest all r rest → IsDue all → r.expects ≡ true
+due_expects all r rest is due = is.asks.expects ∙ awaits_same all is.whole.head due.head is.whole.after due.after is.whole.at due.at due.waits
+
+pub expects_due : (all : List ℕ) (r : Request) (rest : List ℕ) → IsRequest all r rest → r.expects ≡ true → IsDue all
+expects_due all r rest is expects = record { head = is.whole.head; after = is.whole.after; at = is.whole.at; waits = sym is.asks.expects ∙ expects }
+
+-- nothing is due without a head, or with one that is refused
+pub headless_not_due : (all : List ℕ) → HasNoHead all → IsDue all → ⊥
+headless_not_due all none due = none due.head due.after due.at
+
+refused_awaits : (h : RequestHead) (f : Result Framing ℕ) (code : ℕ) → f ≡ Err code → (asks_interim h.minor (fields_of h) && tells_body f) ≡ true → ⊥
+refused_awaits h (Ok framing) code is waits = absurd (cc is)
+refused_awaits h (Err other) code is waits = absurd (neither (asks_interim h.minor (fields_of h)) waits)
+  where
+    neither : (b : Bool) → (b && false) ≡ true → ⊥
+    neither true is = absurd (cc is)
+    neither false is = absurd (cc is)
+
+pub bad_head_not_due : (all : List ℕ) (code : ℕ) → IsBadHead all code → IsDue all → ⊥
+bad_head_not_due all code (inl refused) due =
+    let waits = awaits_same all refused.head due.head refused.after due.after refused.at due.at due.waits in
+    refused_awaits refused.head (frame refused.head) code refused.why waits
+bad_head_not_due all code (inr (inl full)) due = full.0.none due.head due.after due.at
+bad_head_not_due all code (inr (inr lost)) due =
+    lost.0.never lost.0.behind due.head due.after (subst (λ (l : List ℕ). ReadsRequest l due.head due.after) lost.0.parts due.at.reads)
+
+-- what is due is due or not
+pub no_due_of_nothing : (all : List ℕ) → all ≡ [] → IsDue all → ⊥
+no_due_of_nothing all none due = no_head_of_nothing due.head due.after (subst (λ (l : List ℕ). HasHead l due.head due.after) none due.at)
+
+pub one_due : (all : List ℕ) (a b : Bool) → DueIs all a → DueIs all b → a ≡ b
+one_due all true true first second = refl
+one_due all true false first second = absurd (second first)
+one_due all false true first second = absurd (first second)
+one_due all false false first second = refl
+
+-- `Continue` isn't given where it was given, and nothing else where it is due and wasn't
+pub not_settled : (c : Bool) (all : List ℕ) → IsDue all → c ≡ false → IsSettled c all → ⊥
+not_settled c all due not settled = absurd (let both = sym not ∙ settled due in cc both)
+
+pub one_answer : (c : Bool) (all : List ℕ) (a b : Next) (rest rest2 : List ℕ) → Gives c all a rest → Gives c all b rest2 → (a ≡ b) × (rest ≡ rest2)
+one_answer c all (next.Ready r) (next.Ready q) rest rest2 first second =
+    let same = one_request all r q rest rest2 first.0 second.0 in
     (ap (λ (x : Request). next.Ready x) same.0, same.1)
-one_answer all (next.Ready r) next.Continue rest rest2 first second = absurd second
-one_answer all (next.Ready r) next.End rest rest2 first second = absurd (no_request_of_nothing all r rest second.0 first)
-one_answer all (next.Ready r) next.CutShort rest rest2 first second = absurd (no_cut_request all r rest first second.0)
-one_answer all (next.Ready r) (next.Bad reply) rest rest2 first second = absurd (no_bad_request all r rest second.0.0 first second.0.1)
-one_answer all next.Continue b rest rest2 first second = absurd first
-one_answer all next.End (next.Ready r) rest rest2 first second = absurd (no_request_of_nothing all r rest2 first.0 second)
-one_answer all next.End next.Continue rest rest2 first second = absurd second
-one_answer all next.End next.End rest rest2 first second = (refl, first.1 ∙ sym second.1)
-one_answer all next.End next.CutShort rest rest2 first second = absurd (no_cut_of_nothing all first.0 second.0)
-one_answer all next.End (next.Bad reply) rest rest2 first second = absurd (no_bad_of_nothing all second.0.0 first.0 second.0.1)
-one_answer all next.CutShort (next.Ready r) rest rest2 first second = absurd (no_cut_request all r rest2 second first.0)
-one_answer all next.CutShort next.Continue rest rest2 first second = absurd second
-one_answer all next.CutShort next.End rest rest2 first second = absurd (no_cut_of_nothing all second.0 first.0)
-one_answer all next.CutShort next.CutShort rest rest2 first second = (refl, first.1 ∙ sym second.1)
-one_answer all next.CutShort (next.Bad reply) rest rest2 first second = absurd (no_bad_cut all second.0.0 second.0.1 first.0)
-one_answer all (next.Bad reply) (next.Ready r) rest rest2 first second = absurd (no_bad_request all r rest2 first.0.0 second first.0.1)
-one_answer all (next.Bad reply) next.Continue rest rest2 first second = absurd second
-one_answer all (next.Bad reply) next.End rest rest2 first second = absurd (no_bad_of_nothing all first.0.0 second.0 first.0.1)
-one_answer all (next.Bad reply) next.CutShort rest rest2 first second = absurd (no_bad_cut all first.0.0 first.0.1 second.0)
-one_answer all (next.Bad reply) (next.Bad other) rest rest2 first second =
-    (ap (λ (x : Reply). next.Bad x) (one_reply all reply other first.0 second.0), first.1 ∙ sym second.1)
+one_answer c all (next.Ready r) next.Continue rest rest2 first second = absurd (not_settled c all second.0 second.1 first.1)
+one_answer c all (next.Ready r) next.End rest rest2 first second = absurd (no_request_of_nothing all r rest second.0 first.0)
+one_answer c all (next.Ready r) next.CutShort rest rest2 first second = absurd (no_cut_request all r rest first.0 second.0)
+one_answer c all (next.Ready r) (next.Bad reply) rest rest2 first second = absurd (no_bad_request all r rest second.0.0 first.0 second.0.1)
+one_answer c all next.Continue (next.Ready r) rest rest2 first second = absurd (not_settled c all first.0 first.1 second.1)
+one_answer c all next.Continue next.Continue rest rest2 first second = (refl, first.2 ∙ sym second.2)
+one_answer c all next.Continue next.End rest rest2 first second = absurd (no_due_of_nothing all second.0 first.0)
+one_answer c all next.Continue next.CutShort rest rest2 first second = absurd (not_settled c all first.0 first.1 second.1)
+one_answer c all next.Continue (next.Bad reply) rest rest2 first second = absurd (not_settled c all first.0 first.1 second.1)
+one_answer c all next.End (next.Ready r) rest rest2 first second = absurd (no_request_of_nothing all r rest2 first.0 second.0)
+one_answer c all next.End next.Continue rest rest2 first second = absurd (no_due_of_nothing all first.0 second.0)
+one_answer c all next.End next.End rest rest2 first second = (refl, first.1 ∙ sym second.1)
+one_answer c all next.End next.CutShort rest rest2 first second = absurd (no_cut_of_nothing all first.0 second.0)
+one_answer c all next.End (next.Bad reply) rest rest2 first second = absurd (no_bad_of_nothing all second.0.0 first.0 second.0.1)
+one_answer c all next.CutShort (next.Ready r) rest rest2 first second = absurd (no_cut_request all r rest2 second.0 first.0)
+one_answer c all next.CutShort next.Continue rest rest2 first second = absurd (not_settled c all second.0 second.1 first.1)
+one_answer c all next.CutShort next.End rest rest2 first second = absurd (no_cut_of_nothing all second.0 first.0)
+one_answer c all next.CutShort next.CutShort rest rest2 first second = (refl, first.2 ∙ sym second.2)
+one_answer c all next.CutShort (next.Bad reply) rest rest2 first second = absurd (no_bad_cut all second.0.0 second.0.1 first.0)
+one_answer c all (next.Bad reply) (next.Ready r) rest rest2 first second = absurd (no_bad_request all r rest2 first.0.0 second.0 first.0.1)
+one_answer c all (next.Bad reply) next.Continue rest rest2 first second = absurd (not_settled c all second.0 second.1 first.1)
+one_answer c all (next.Bad reply) next.End rest rest2 first second = absurd (no_bad_of_nothing all first.0.0 second.0 first.0.1)
+one_answer c all (next.Bad reply) next.CutShort rest rest2 first second = absurd (no_bad_cut all first.0.0 first.0.1 second.0)
+one_answer c all (next.Bad reply) (next.Bad other) rest rest2 first second =
+    (ap (λ (x : Reply). next.Bad x) (one_reply all reply other first.0 second.0), first.2 ∙ sym second.2)

@@ -3,6 +3,7 @@ pub mod BufferLemmas
 pub mod StreamLemmas
 pub mod FrontLemmas
 pub mod LawLemmas
+pub mod LineLemmas
 pub mod StreamLaw
 pub mod BeginLemmas
 pub mod PromptLemmas

@@ -1,5 +1,5 @@
 -- What was held when the last of several reads began.
-use Rattle.std.proofs.Common.{◌≡◌, ℕ, ◌<◌, List, [], ◌∷◌, ◌++◌, length, drop, false, Option, refl, ap, sym, subst, ◌∙◌, arith, append_assoc, inl, inr}
+use Rattle.std.proofs.Common.{◌≡◌, ℕ, ◌<◌, Bool, List, [], ◌∷◌, ◌++◌, length, drop, false, Option, refl, ap, sym, subst, ◌∙◌, arith, append_assoc, inl, inr}
 use Rattle.std.specs.Prelude.{◌⊎◌, ◌||◌}
 use Rattle.std.specs.List.{list_any}
 use Rattle.std.proofs.lemmas.List.{append-nil}
@@ -8,14 +8,16 @@ use Rattle.std.proofs.Math.Seq.{drop-append_seam}
 use Rattle.httparse.specs.Grammar.{HasNoRequest, MayBecomeRequest}
 use Rattle.httparse.specs.declared.spans.HeaderSpan.{HeaderSpan}
 use Rattle.http_conn.specs.Told.{Comes, StillComes, LastRead}
-use Rattle.http_conn.specs.Next.{IsHeadless, IsInHead, IsInLine, NeedsMore, is_line_end}
+use Rattle.http_conn.specs.Next.{IsHeadless, IsInHead, IsInLine, IsSettled, NeedsMore, is_line_end}
 use Rattle.http_conn.specs.Body.{IsCutAt}
 use Rattle.body_read.specs.Chunks.{Outcome}
-use Rattle.http_head.specs.Head.{max_head}
+use Rattle.http_head.specs.Head.{HasHead, HasNoHead, max_head}
 use Rattle.http_head.specs.Parts.{IsHead}
 use Rattle.http_head.specs.declared.verdict.Head.{Head}
-use Rattle.http_conn.proofs.StreamLemmas.{IsHead-behind, body_held}
-use Rattle.http_head.proofs.HeadLemmas.{no_request_no_head}
+use Rattle.http_conn.proofs.StreamLemmas.{IsHead-behind, body_held, settled_behind}
+use Rattle.http_conn.proofs.LawLemmas.{headless_not_due, no_head_of_nothing}
+use Rattle.http_conn.proofs.LineLemmas.{no_head_in_line}
+use Rattle.http_head.proofs.HeadLemmas.{head_of, no_request_no_head}
 
 -- nothing was read
 pub never_read : {S : Type 0} (left asked : S → Option (List ℕ)) (held : List ℕ) (old new : S) (Is : List ℕ → Type 0) → new ≡ old → LastRead left asked held old new Is
@@ -84,22 +86,44 @@ unfinished_waits [] none may short = inl refl
 unfinished_waits (b ∷ held) none may short =
     inr (record { some = omega arith; short = short; none = no_request_no_head (b ∷ held) none; may = may })
 
+-- no head is whole yet
+pub headless_none : (held : List ℕ) → IsHeadless held → HasNoHead held
+headless_none held (inl none) head after at = no_head_of_nothing head after (subst (λ (l : List ℕ). HasHead l head after) none at)
+headless_none held (inr cut) head after at = cut.none head after at
+
+-- the interim response isn't due without a head
+pub headless_settled : (c : Bool) (held : List ℕ) → IsHeadless held → IsSettled c held
+headless_settled c held waits = λ due. absurd (headless_not_due held (headless_none held waits) due)
+
+-- no head is whole in the line behind a front without one
+pub line_settled : (c : Bool) (start held : List ℕ) → IsHeadless start → IsInLine start held → IsSettled c held
+line_settled c start held waits line = λ due. absurd (headless_not_due held (λ h after at. no_head_in_line start held h after (headless_none start waits) line at) due)
+
+pub settled_all : (c : Bool) (held : List ℕ) → NeedsMore false held → NeedsMore c held
+settled_all c held needs = (needs.0, λ due. absurd (cc (needs.1 due)))
+
 -- reads behind a front that waits, up to the end of a line
 pub head_read_on : {S : Type 0} (left asked : S → Option (List ℕ)) (start held : List ℕ) (first mid last : S)
-    → LastRead left asked start first mid NeedsMore → StillComes start (left first) held (left mid)
-    → LastRead left asked held mid last (IsInHead held) → IsHeadless held → LastRead left asked start first last NeedsMore
+    → LastRead left asked start first mid (NeedsMore false) → StillComes start (left first) held (left mid)
+    → LastRead left asked held mid last (IsInHead held) → IsHeadless held → LastRead left asked start first last (NeedsMore false)
 head_read_on left asked start held first mid last before comes behind waits =
-    read_on left asked start held first mid last (IsInHead held) NeedsMore before comes behind (λ l line. inr ((held, waits, line.0), line.1))
+    read_on left asked start held first mid last (IsInHead held) (NeedsMore false) before comes behind (λ l line. (inr ((held, waits, line.0), line.1), line_settled false held l waits line.0))
 
 -- a body that isn't whole
-cut_waits : (start held : List ℕ) (headers : List HeaderSpan) (h : Head) → IsHead start headers h → IsCutAt h.framing h.spans.len start held → NeedsMore held
-cut_waits start held headers h head cut =
+cut_waits : (c : Bool) (start held : List ℕ) (headers : List HeaderSpan) (h : Head) → IsHead start headers h → IsSettled c start → IsCutAt h.framing h.spans.len start held → NeedsMore c held
+cut_waits c start held headers h head settled cut =
     let here : IsHead held headers h = IsHead-behind start held headers h head cut.0 in
-    inl (inr (inl (body_held held headers h Outcome.Short here cut.1)))
+    (inl (inr (inl (body_held held headers h Outcome.Short here cut.1))), settled_behind c start held head.head (drop h.spans.len start) (head_of start headers h head) cut.0 settled)
 
 -- reads behind a head, up to the end of the body
-pub body_read_on : {S : Type 0} (left asked : S → Option (List ℕ)) (start held : List ℕ) (headers : List HeaderSpan) (h : Head) (first mid last : S)
-    → LastRead left asked start first mid NeedsMore → StillComes start (left first) held (left mid)
-    → IsHead held headers h → LastRead left asked held mid last (IsCutAt h.framing h.spans.len held) → LastRead left asked start first last NeedsMore
-body_read_on left asked start held headers h first mid last before comes head behind =
-    read_on left asked start held first mid last (IsCutAt h.framing h.spans.len held) NeedsMore before comes behind (λ l short. cut_waits held l headers h head short)
+pub body_read_on : {S : Type 0} (left asked : S → Option (List ℕ)) (c : Bool) (start held : List ℕ) (headers : List HeaderSpan) (h : Head) (first mid last : S)
+    → LastRead left asked start first mid (NeedsMore false) → StillComes start (left first) held (left mid)
+    → IsHead held headers h → IsSettled c held → LastRead left asked held mid last (IsCutAt h.framing h.spans.len held) → LastRead left asked start first last (NeedsMore c)
+body_read_on left asked c start held headers h first mid last before comes head settled behind =
+    read_on left asked start held first mid last (IsCutAt h.framing h.spans.len held) (NeedsMore c)
+    (read_weaker left asked start first mid (NeedsMore false) (NeedsMore c) before (settled_all c)) comes behind (λ l short. cut_waits c held l headers h head settled short)
+
+-- reads up to a head
+pub head_read : {S : Type 0} (left asked : S → Option (List ℕ)) (c : Bool) (start : List ℕ) (first last : S)
+    → LastRead left asked start first last (NeedsMore false) → LastRead left asked start first last (NeedsMore c)
+head_read left asked c start first last before = read_weaker left asked start first last (NeedsMore false) (NeedsMore c) before (settled_all c)

@@ -4,7 +4,7 @@ use Rattle.std.specs.Prelude.{⊤}
 use Rattle.rest_codes.specs.declared.response.Reply.{Reply}
 use Rattle.http_conn.specs.Stream.{Ending, End, Closed, Limit, CutShort, BadPlace, EndsBehind, Begins, GoesOn, Stream, IsRequest, is_closed, max_requests}
 use Rattle.http_conn.specs.declared.request.Request.{Request}
-use Rattle.http_conn.proofs.LawLemmas.{one_request, no_bad_request, no_cut_request, no_bad_cut, no_request_of_nothing, no_cut_of_nothing, no_bad_of_nothing, one_reply}
+use Rattle.http_conn.proofs.LawLemmas.{one_request, no_bad_request, no_cut_request, no_bad_cut, no_request_of_nothing, no_cut_of_nothing, no_bad_of_nothing, one_due, one_reply}
 
 -- no ending but that of a close stands before a request
 no_ending : (n : ℕ) (bytes : List ℕ) (e : Ending) (r : Request) (mid : List ℕ) → n < max_requests → EndsBehind n false bytes e → IsRequest bytes r mid → ⊥
@@ -33,14 +33,14 @@ one_ending n closed bytes Limit (BadPlace due reply) first second = absurd (omeg
 one_ending n closed bytes (CutShort due) End first second = absurd (no_cut_of_nothing bytes second.2 first.3)
 one_ending n closed bytes (CutShort due) Closed first second = absurd (cc (first.1, second.1))
 one_ending n closed bytes (CutShort due) Limit first second = absurd (omega arith)
-one_ending n closed bytes (CutShort due) (CutShort other) first second = ap (λ (b : Bool). CutShort b) (first.2 ∙ sym second.2)
+one_ending n closed bytes (CutShort due) (CutShort other) first second = ap (λ (b : Bool). CutShort b) (one_due bytes due other first.2 second.2)
 one_ending n closed bytes (CutShort due) (BadPlace other reply) first second = absurd (no_bad_cut bytes second.3.0 second.3.1 first.3)
 one_ending n closed bytes (BadPlace due reply) End first second = absurd (no_bad_of_nothing bytes first.3.0 second.2 first.3.1)
 one_ending n closed bytes (BadPlace due reply) Closed first second = absurd (cc (first.1, second.1))
 one_ending n closed bytes (BadPlace due reply) Limit first second = absurd (omega arith)
 one_ending n closed bytes (BadPlace due reply) (CutShort other) first second = absurd (no_bad_cut bytes first.3.0 first.3.1 second.3)
 one_ending n closed bytes (BadPlace due reply) (BadPlace other answer) first second =
-    ap (λ (b : Bool). BadPlace b reply) (first.2 ∙ sym second.2) ∙ ap (λ (x : Reply). BadPlace other x) (one_reply bytes reply answer first.3 second.3)
+    ap (λ (b : Bool). BadPlace b reply) (one_due bytes due other first.2 second.2) ∙ ap (λ (x : Reply). BadPlace other x) (one_reply bytes reply answer first.3 second.3)
 
 -- whether the last of the requests closes, or of those before them where there is none
 abbrev is_over : Bool → List Request → Bool

@@ -1,20 +1,22 @@
 -- What holds of the bytes at hand holds of all that is still to come.
-use Rattle.std.proofs.Common.{◌≡◌, ℕ, ◌+◌, ◌-◌, ◌<◌, ◌≤◌, List, [], ◌++◌, length, take, drop, Option, None, Some, refl, ap, sym, subst, ◌∙◌, arith, append_assoc, length-append, length-take, inl, inr}
+use Rattle.std.proofs.Common.{◌≡◌, ℕ, ◌+◌, ◌-◌, ◌<◌, ◌≤◌, Bool, List, [], ◌++◌, length, take, drop, Option, None, Some, refl, ap, sym, subst, ◌∙◌, arith, append_assoc, length-append, length-take, inl, inr}
 use Rattle.std.proofs.lemmas.List.{take-append-drop, append-nil}
 use Rattle.std.specs.Io.KnownBytes.{prepend_known, IsAtEnd}
 use Rattle.httparse.specs.Grammar.{MayBecomeRequest, RequestHead}
 use Rattle.httparse.specs.declared.spans.HeaderSpan.{HeaderSpan}
-use Rattle.http_head.specs.Head.{HasNoHead, IsRefused, max_head}
+use Rattle.http_head.specs.Head.{HasHead, HasNoHead, IsRefused, max_head}
 use Rattle.http_head.specs.Parts.{IsHead, IsLost}
 use Rattle.http_head.specs.declared.verdict.Head.{Head}
 use Rattle.http_head.proofs.HeadLemmas.{HasHead-append, IsHead-append, IsRefused-append, head_of, no_head-append}
 use Rattle.body_read.specs.Chunks.{Outcome}
 use Rattle.body_read.specs.Body.{BodyIs}
 use Rattle.body_read.proofs.BodyLaws.{body_whole-append, body_refused-append}
-use Rattle.http_conn.specs.Stream.{Asks, HasBody, IsBadPlace, IsHopeless, IsRequest}
+use Rattle.http_conn.specs.Stream.{Asks, HasBody, IsBadHead, IsBadPlace, IsHopeless, IsRequest}
 use Rattle.http_conn.specs.Told.{Comes}
 use Rattle.http_conn.specs.declared.request.Request.{Request}
-use Rattle.http_conn.proofs.LawLemmas.{front_of, lost_may_not}
+use Rattle.http_conn.specs.Next.{IsSettled}
+use Rattle.http_conn.specs.Stream.{IsDue}
+use Rattle.http_conn.proofs.LawLemmas.{awaits_same, front_of, lost_may_not}
 
 -- all that comes is what is held and what is left
 pub comes_split : (held : List ℕ) (left : Option (List ℕ)) (all : List ℕ) → Comes held left all
@@ -61,10 +63,10 @@ refused_body-append buf more code is = record {
   body = body_refused-append is.framing is.after more code is.body;
 }
 
--- a bad place stays one, whatever follows
-pub bad-append : (held rest : List ℕ) (code : ℕ) → IsBadPlace held code → IsBadPlace (held ++ rest) code
-bad-append held rest code (inl found) = inl (IsRefused-append held rest code found)
-bad-append held rest code (inr (inl full)) =
+-- a bad head stays one, whatever follows
+pub bad_head-append : (held rest : List ℕ) (code : ℕ) → IsBadHead held code → IsBadHead (held ++ rest) code
+bad_head-append held rest code (inl found) = inl (IsRefused-append held rest code found)
+bad_head-append held rest code (inr (inl full)) =
     inr (inl (
       record {
         long = omega (arith, full.0.long, length-append held rest);
@@ -73,26 +75,30 @@ bad-append held rest code (inr (inl full)) =
       },
       full.1,
     ))
-bad-append held rest code (inr (inr (inl hopeless))) = inr (inr (inl (IsHopeless-append held rest hopeless.0, hopeless.1)))
-bad-append held rest code (inr (inr (inr body))) = inr (inr (inr (refused_body-append held rest code body)))
+bad_head-append held rest code (inr (inr hopeless)) = inr (inr (IsHopeless-append held rest hopeless.0, hopeless.1))
+
+-- a bad place stays one, whatever follows
+pub bad-append : (held rest : List ℕ) (code : ℕ) → IsBadPlace held code → IsBadPlace (held ++ rest) code
+bad-append held rest code (inl head) = inl (bad_head-append held rest code head)
+bad-append held rest code (inr body) = inr (refused_body-append held rest code body)
 
 -- the same, refused
-pub full_refused : (held : List ℕ) (code : ℕ) → IsRefused (take max_head held) code → IsBadPlace held code
+pub full_refused : (held : List ℕ) (code : ℕ) → IsRefused (take max_head held) code → IsBadHead held code
 full_refused held code refused = inl (subst (λ (l : List ℕ). IsRefused l code) (take-append-drop max_head held) (IsRefused-append (take max_head held) (drop max_head held) code refused))
 
 -- what is lost, and shorter than the longest head
-pub lost_bad : (held : List ℕ) → length held < max_head → IsLost held → IsBadPlace held 400
+pub lost_bad : (held : List ℕ) → length held < max_head → IsLost held → IsBadHead held 400
 lost_bad held short lost =
-    inr (inr (inl (record { front = held; behind = []; parts = sym (append-nil held); short = short; never = lost.0; decided = lost.1 }, refl)))
+    inr (inr (record { front = held; behind = []; parts = sym (append-nil held); short = short; never = lost.0; decided = lost.1 }, refl))
 
 -- a front that is lost
-pub front_lost : (held : List ℕ) (n : ℕ) → n < max_head → IsLost (take n held) → IsBadPlace held 400
+pub front_lost : (held : List ℕ) (n : ℕ) → n < max_head → IsLost (take n held) → IsBadHead held 400
 front_lost held n short lost =
     let below : length (take n held) < max_head = omega (arith, length-take {A = ℕ} n held) in
-    subst (λ (l : List ℕ). IsBadPlace l 400) (take-append-drop n held) (bad-append (take n held) (drop n held) 400 (lost_bad (take n held) below lost))
+    subst (λ (l : List ℕ). IsBadHead l 400) (take-append-drop n held) (bad_head-append (take n held) (drop n held) 400 (lost_bad (take n held) below lost))
 
 -- no head, and each front may become one
-pub front_open : (held : List ℕ) (n : ℕ) → n + 1 ≡ max_head → max_head ≤ length held → HasNoHead held → MayBecomeRequest (take n held) → IsBadPlace held 431
+pub front_open : (held : List ℕ) (n : ℕ) → n + 1 ≡ max_head → max_head ≤ length held → HasNoHead held → MayBecomeRequest (take n held) → IsBadHead held 431
 front_open held n size long none may =
     let whole : take n held ++ drop n held ≡ held = take-append-drop n held in
     let front : max_head ≤ length (take n held) + 1 = omega (arith, size, length-take {A = ℕ} n held) in
@@ -140,3 +146,13 @@ body_held held headers h x is body = record {
 -- what was held and cut
 pub comes_cut : (held cut rest all : List ℕ) (left : Option (List ℕ)) → left ≡ Some rest → Comes cut left (cut ++ rest)
 comes_cut held cut rest all left is = ap (prepend_known cut) is
+
+-- a head that is read settles the interim response for all bytes that follow it
+pub settled_behind : (c : Bool) (held bytes : List ℕ) (h : RequestHead) (after : List ℕ) → HasHead held h after → (more : List ℕ) × (bytes ≡ held ++ more) → IsSettled c held → IsSettled c bytes
+settled_behind c held bytes h after at more settled = λ due.
+    let there : HasHead bytes h (after ++ more.0) = subst (λ (l : List ℕ). HasHead l h (after ++ more.0)) (sym more.1) (HasHead-append held more.0 h after at) in
+    settled (record { head = h; after = after; at = at; waits = awaits_same bytes h due.head (after ++ more.0) due.after there due.at due.waits })
+
+-- what is due stays due, whatever follows
+pub IsDue-append : (held more : List ℕ) → IsDue held → IsDue (held ++ more)
+IsDue-append held more due = record { head = due.head; after = due.after ++ more; at = HasHead-append held more due.head due.after due.at; waits = due.waits }

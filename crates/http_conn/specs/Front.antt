@@ -2,7 +2,7 @@
 use Rattle.std.specs.Prelude.{◌≡◌, ℕ, List, [], Option}
 use Rattle.std.specs.Io.KnownBytes.{IsAtEnd}
 use Rattle.httparse.specs.declared.spans.HeaderSpan.{HeaderSpan}
-use Rattle.http_conn.specs.Stream.{IsBadPlace, IsCutHead}
+use Rattle.http_conn.specs.Stream.{IsBadHead, IsCutHead}
 use Rattle.http_head.specs.Parts.{IsHead}
 use Rattle.http_conn.specs.declared.connection.Front.{Front}
 use Rattle.http_conn.specs.declared.connection.Front.TheVariants.{Whole, Bad, Cut, End}
@@ -10,6 +10,6 @@ use Rattle.http_conn.specs.declared.connection.Front.TheVariants.{Whole, Bad, Cu
 -- the front is what was found
 abbrev pub FrontIs : List ℕ → List HeaderSpan → Option (List ℕ) → Front → Type 0
 FrontIs held headers left (Whole head) = IsHead held headers head
-FrontIs held headers left (Bad code) = IsBadPlace held code
+FrontIs held headers left (Bad code) = IsBadHead held code
 FrontIs held headers left Cut = IsCutHead held × IsAtEnd left
 FrontIs held headers left End = (held ≡ []) × IsAtEnd left

@@ -6,7 +6,7 @@ use Rattle.rest_codes.specs.declared.response.Reply.{Reply}
 use Rattle.rest_codes.specs.Errors.{refusal_of}
 use Rattle.http_head.specs.Asked.{asked_in}
 use Rattle.http_head.specs.Fields.{values_of, joined, is_encoding, asks_close}
-use Rattle.http_head.specs.Head.{max_head, HasHead, HasNoHead, IsRefused, fields_of, frame}
+use Rattle.http_head.specs.Head.{max_head, HasHead, HasNoHead, IsRefused, awaits, fields_of, frame}
 use Rattle.http_head.specs.declared.fields.Framing.{Framing}
 use Rattle.body_read.specs.Chunks.{Outcome}
 use Rattle.body_read.specs.Body.{BodyIs}
@@ -38,6 +38,7 @@ pub record Asks (head : RequestHead) (request : Request) : Type 0 where
   pub content_type : request.content_type ≡ joined (values_of (codes "content-type") (fields_of head))
   pub encoded : request.encoded ≡ list_any is_encoding (values_of (codes "content-encoding") (fields_of head))
   pub close : request.close ≡ asks_close head.minor (fields_of head)
+  pub expects : request.expects ≡ awaits head
 
 -- the bytes begin with this request: its head, and its body whole
 pub record IsRequest (bytes : List ℕ) (request : Request) (rest : List ℕ) : Type 0 where
@@ -60,11 +61,14 @@ pub record IsTooLong (bytes : List ℕ) : Type 0 where
   pub none : HasNoHead bytes
   pub hope : IsHopeless bytes → ⊥
 
--- No request can stand here, and this is the status: that of a whole head that is refused, 431 where no head ends in as many bytes
--- as one may have, 400 where the bytes can't become a head, and that of a body that is refused.
+-- No head that is served can stand here, and this is the status: that of a whole head that is refused, 431 where no head ends in as
+-- many bytes as one may have, 400 where the bytes can't become a head.
+abbrev pub IsBadHead : List ℕ → ℕ → Type 0
+IsBadHead bytes code = IsRefused bytes code ⊎ ((IsTooLong bytes × (code ≡ 431)) ⊎ (IsHopeless bytes × (code ≡ 400)))
+
+-- no request can stand here, and this is the status: that of the head, or that of a body that is refused
 abbrev pub IsBadPlace : List ℕ → ℕ → Type 0
-IsBadPlace bytes code =
-    IsRefused bytes code ⊎ ((IsTooLong bytes × (code ≡ 431)) ⊎ ((IsHopeless bytes × (code ≡ 400)) ⊎ HasBody bytes (Outcome.Refused code)))
+IsBadPlace bytes code = IsBadHead bytes code ⊎ HasBody bytes (Outcome.Refused code)
 
 -- the place is bad, and is answered so
 abbrev pub IsBad : List ℕ → Reply → Type 0
@@ -85,6 +89,23 @@ pub record IsCutHead (bytes : List ℕ) : Type 0 where
 abbrev pub IsCut : List ℕ → Type 0
 IsCut bytes = IsCutBody bytes ⊎ IsCutHead bytes
 
+-- The interim response is due for the request at the front: its head is whole and isn't refused, and the client may wait for that
+-- response before it sends the body.
+pub record IsDue (bytes : List ℕ) : Type 0 where
+  pub head : RequestHead
+  pub after : List ℕ
+  pub at : HasHead bytes head after
+  pub waits : awaits head ≡ true
+
+-- the interim response (RFC 9110, section 15.2.1)
+abbrev pub interim_bytes : List ℕ
+interim_bytes = codes "HTTP/1.1 100 Continue\r\n\r\n"
+
+-- the interim response is due, or isn't
+abbrev pub DueIs : List ℕ → Bool → Type 0
+DueIs bytes true = IsDue bytes
+DueIs bytes false = IsDue bytes → ⊥
+
 -- Why a stream isn't read further. `due` says that the interim response was due for the request in which it ends.
 pub data Ending : Type 0 where
   End Closed Limit : Ending
@@ -102,8 +123,8 @@ abbrev pub EndsBehind : ℕ → Bool → List ℕ → Ending → Type 0
 EndsBehind n closed rest End = (n < max_requests) × (closed ≡ false) × (rest ≡ [])
 EndsBehind n closed rest Closed = (n < max_requests) × (closed ≡ true)
 EndsBehind n closed rest Limit = n ≡ max_requests
-EndsBehind n closed rest (CutShort due) = (n < max_requests) × (closed ≡ false) × (due ≡ false) × IsCut rest
-EndsBehind n closed rest (BadPlace due reply) = (n < max_requests) × (closed ≡ false) × (due ≡ false) × IsBad rest reply
+EndsBehind n closed rest (CutShort due) = (n < max_requests) × (closed ≡ false) × DueIs rest due × IsCut rest
+EndsBehind n closed rest (BadPlace due reply) = (n < max_requests) × (closed ≡ false) × DueIs rest due × IsBad rest reply
 
 -- behind a request that closes there is no other
 abbrev pub GoesOn : Request → List Request → Type 0

@@ -3,12 +3,12 @@ ghost use Rattle.std.specs.Io.KnownBytes.{IsAtEnd, Appends};
 ghost use Rattle.gate_io.specs.Counts.{Rose};
 ghost use Rattle.rest_codes.specs.Errors.{refusal_of};
 ghost use Rattle.std.specs.List.{list_any};
-ghost use Rattle.http_conn.specs.Told.{Comes, StillComes, LastRead};
-ghost use Rattle.http_conn.specs.Next.{Gives, IsWaiting, IsInHead, NeedsMore, is_line_end, is_last};
-ghost use Rattle.http_conn.specs.Stream.{IsRequest, IsBadPlace};
-ghost use Rattle.http_head.specs.Head.{max_head, HasNoHead};
-ghost use Rattle.http_conn.specs.declared.request.Request.{Request as RequestOf};
-ghost use Rattle.http_head.specs.Parts.{max_spans};
+ghost use Rattle.http_conn.specs.Told.{StillComes, LastRead, Reads};
+ghost use Rattle.http_conn.specs.Next.{GivesSo, StandsSo, IsAtHand, IsHeadless, IsInHead, IsSettled, NeedsMore, is_line_end};
+ghost use Rattle.http_conn.specs.Stream.{IsBadHead, IsDue, interim_bytes};
+ghost use Rattle.http_head.specs.Head.{max_head, HasHead, HasNoHead};
+ghost use Rattle.httparse.specs.Grammar.{RequestHead};
+ghost use Rattle.http_head.specs.Parts.{IsHead, max_spans};
 ghost use Rattle.http_conn.specs.Front.{FrontIs};
 
 use crate::body::{Found, read_body};
@@ -16,7 +16,7 @@ use crate::buffer::Buffer;
 use crate::whole::make_request;
 use crate::{ConnNo, Next};
 use gate_io::{Sink, Source, Want, write_all};
-use http_head::{Head, Verdict, judge};
+use http_head::{Head, Verdict, awaits_interim, judge};
 use httparse::spans::{EMPTY_HEADER_SPAN, HeaderSpan};
 use rest_codes::refusal;
 use std::alloc::{AllocError, Global};
@@ -36,6 +36,7 @@ pub struct Connection {
     held: Buffer,
     headers: Vec<HeaderSpan>,
     over: bool,
+    continued: bool,
     ghost room: { max_spans ≤ length headers.items },
 }
 
@@ -44,7 +45,7 @@ impl Model for Connection {
 
     ghost Value = { Conn };
 
-    ghost view = { λ c. record { held = c.held; over = c.over } };
+    ghost view = { λ c. record { held = c.held; over = c.over; continued = c.continued } };
 }
 
 /// What stands at the front: a head, or why there is none.
@@ -62,7 +63,7 @@ fn full_status(held: &[u8], headers: &mut [HeaderSpan]) -> u32
     requires long { max_head ≤ length held.now }
     requires none { HasNoHead held.now }
     requires room { max_spans ≤ length headers.old }
-    ensures { IsBadPlace held.now result }
+    ensures { IsBadHead held.now result }
 {
     match judge(&held[..MAX_FRONT], headers) {
         Verdict::Lost => 400,
@@ -105,7 +106,7 @@ fn broken(held: &[u8], headers: &mut [HeaderSpan], no: ConnNo) -> Result<Front, 
         → FrontIs held.now headers.new left front) }
     ensures only { OnOk result (no ≡ ConnNo.ReadFault) }
     ensures same { IfErr result (λ e. e ≡ no) }
-    ensures waits { result ≡ Err ConnNo.ReadFault → IsWaiting held.now }
+    ensures waits { result ≡ Err ConnNo.ReadFault → IsHeadless held.now }
 {
     if no != ConnNo::ReadFault {
         return Err(no);
@@ -171,10 +172,10 @@ fn read_head<S: Source>(
     requires { max_spans ≤ length headers.old }
     ensures same { OnOk result (StillComes held.old (S.left source.old) held.new (S.left source.new)) }
     ensures front { IfOk result (λ front. FrontIs held.new headers.new (S.left source.new) front) }
-    ensures prompt { (request : RequestOf) (rest : List ℕ) → IsRequest held.old request rest
+    ensures prompt { (head : RequestHead) (after : List ℕ) → HasHead held.old head after
         → (source.new ≡ source.old) × (held.new ≡ held.old) }
-    ensures patient { LastRead S.left S.asked held.old source.old source.new NeedsMore }
-    ensures lost { result ≡ Err ConnNo.ReadFault → IsWaiting held.new
+    ensures patient { LastRead S.left S.asked held.old source.old source.new (NeedsMore false) }
+    ensures lost { result ≡ Err ConnNo.ReadFault → IsHeadless held.new
         × (StillComes held.old (S.left source.old) held.new (S.left source.new)) }
     ensures cause { result ≡ Err ConnNo.ReadFault
         → Rose (S.faults source.old) (S.faults source.new) }
@@ -209,27 +210,30 @@ fn bad(alloc: Global, code: u32) -> Result<Next, ConnNo>
     }
 }
 
-/// Reads one request, or finds why there is none.
+/// The interim response is due for the request of this head, and `Continue` wasn't given for it.
+fn is_owed(held: &[u8], headers: &[HeaderSpan], head: Head, continued: bool) -> bool
+    requires { IsHead held.now headers.now head }
+    ensures owed { result ≡ true → IsDue held.now × (continued ≡ false) }
+    ensures settled { result ≡ false → IsSettled continued held.now }
+{
+    awaits_interim(held, headers, head) && !continued
+}
+
+/// Reads one request, or finds why there is none. Where the interim response is due and `Continue`
+/// wasn't given, it is given before anything of the body is read.
 fn read_request<S: Source>(
     alloc: Global,
     held: &mut Buffer,
     headers: &mut [HeaderSpan],
+    continued: bool,
     source: &mut S,
 ) -> Result<Next, ConnNo>
     requires { max_spans ≤ length headers.old }
-    ensures given { IfOk result (λ next. (all : List ℕ) → Comes held.old (S.left source.old) all
-        → (rest : List ℕ) × Comes held.new (S.left source.new) rest × Gives all next rest) }
-    ensures interim { result ≢ Ok Next.Continue }
-    ensures prompt { (request : RequestOf) (rest : List ℕ) → IsRequest held.old request rest
-        → source.new ≡ source.old }
-    ensures patient { LastRead S.left S.asked held.old source.old source.new NeedsMore }
-    ensures lost { result ≡ Err ConnNo.ReadFault → IsWaiting held.new
-        × (StillComes held.old (S.left source.old) held.new (S.left source.new)) }
-    ensures cause { result ≡ Err ConnNo.ReadFault
-        → Rose (S.faults source.old) (S.faults source.new) }
-    ensures no_write { (n : ℕ) → result ≢ Err (ConnNo.WriteFault n) }
-    ensures counts { S.faults source.old ≤ S.faults source.new }
-    ensures beside { S.beside source.old source.new }
+    ensures given { GivesSo continued held.old held.new (S.left source.old) (S.left source.new) result }
+    ensures interim { result ≡ Ok Next.Continue → IsDue held.new × (continued ≡ false) }
+    ensures prompt { IsAtHand continued held.old → source.new ≡ source.old }
+    ensures patient { LastRead S.left S.asked held.old source.old source.new (NeedsMore continued) }
+    ensures reads { Reads S.faults S.beside source.old source.new result }
 {
     let head = match read_head(held, headers, source)? {
         Front::Whole(head) => head,
@@ -237,6 +241,9 @@ fn read_request<S: Source>(
         Front::Cut => return Ok(Next::CutShort),
         Front::End => return Ok(Next::End),
     };
+    if is_owed(held.front(), headers, head, continued) {
+        return Ok(Next::Continue);
+    }
     let request = make_request(alloc, held.front(), headers, head)?;
     match read_body(alloc, held, head, headers, source) {
         Ok(Found::Whole(body, end)) => {
@@ -249,58 +256,59 @@ fn read_request<S: Source>(
     }
 }
 
+/// The bytes of the interim response, `HTTP/1.1 100 Continue` (RFC 9110, section 15.2.1).
+pub fn interim_response() -> &'static [u8]
+    ensures { result.now ≡ interim_bytes }
+{
+    b"HTTP/1.1 100 Continue\r\n\r\n"
+}
+
 impl Connection {
     pub fn new(alloc: Global) -> Result<Connection, Want>
-        ensures { IfOk result (λ c. c ≡ record { held = []; over = false }) }
+        ensures { IfOk result (λ c. c ≡ record { held = []; over = false; continued = false }) }
     {
         match vec![in alloc; EMPTY_HEADER_SPAN; MAX_SPANS] {
             Ok(headers) => Ok(Connection {
                 held: Buffer::new(alloc),
                 headers,
                 over: false,
+                continued: false,
             }),
             Err(AllocError) => Err(Want),
         }
     }
 
-    /// Reads the next request. After a request that closes, and anything but `Ready` and `Continue`,
-    /// the connection is over.
+    /// Reads the next request. `Continue` comes exactly once for a request that awaits the interim
+    /// response, and before it is given nothing is read behind the head. After a request that closes,
+    /// and anything but `Ready` and `Continue`, the connection is over.
     pub fn next<S: Source>(&mut self, alloc: Global, source: &mut S) -> Result<Next, ConnNo>
-        // What stands at the front of the bytes that are still to come, and what then follows.
-        ensures given { self.old.over ≡ false → IfOk result (λ next. (all : List ℕ)
-            → Comes self.old.held (S.left source.old) all
-            → (rest : List ℕ) × Comes self.new.held (S.left source.new) rest
-            × Gives all next rest) }
-        // `Continue` comes once requests that ask for it are served.
-        ensures interim { result ≢ Ok Next.Continue }
-        // A request that is held whole is given without a read.
-        ensures prompt { self.old.over ≡ false → (request : RequestOf) (rest : List ℕ)
-            → IsRequest self.old.held request rest → source.new ≡ source.old }
-        // Nothing is read once what is held is a request, or a bad place at the end of its line.
-        ensures patient { self.old.over ≡ false
-            → LastRead S.left S.asked self.old.held source.old source.new NeedsMore }
-        ensures closed { self.old.over ≡ false → IfOk result (λ next. self.new.over ≡ is_last next) }
+        ensures given { self.old.over ≡ false → GivesSo self.old.continued self.old.held
+            self.new.held (S.left source.old) (S.left source.new) result }
+        ensures interim { result ≡ Ok Next.Continue → IsDue self.new.held × (self.old.continued ≡ false) }
+        ensures prompt { self.old.over ≡ false → IsAtHand self.old.continued self.old.held
+            → source.new ≡ source.old }
+        ensures patient { self.old.over ≡ false → LastRead S.left S.asked self.old.held source.old
+            source.new (NeedsMore self.old.continued) }
+        ensures stands { self.old.over ≡ false → StandsSo self.new result }
         ensures over { self.old.over ≡ true → (result ≡ Ok Next.End) × (source.new ≡ source.old)
             × (self.new ≡ self.old) }
-
-        // Each whole request that came before the failure was answered by an earlier call.
-        ensures lost { self.old.over ≡ false → result ≡ Err ConnNo.ReadFault → (all : List ℕ)
-            → Comes self.old.held (S.left source.old) all
-            → Comes self.new.held (S.left source.new) all × IsWaiting self.new.held }
-        ensures no_write { (n : ℕ) → result ≢ Err (ConnNo.WriteFault n) }
-        ensures broken { OnErr result (self.new.over ≡ true) }
-
-        ensures cause { result ≡ Err ConnNo.ReadFault
-            → Rose (S.faults source.old) (S.faults source.new) }
-        ensures counts { S.faults source.old ≤ S.faults source.new }
-        ensures beside { S.beside source.old source.new }
+        ensures reads { Reads S.faults S.beside source.old source.new result }
     {
         if self.over {
             return Ok(Next::End);
         }
+        let continued = self.continued;
         self.over = true;
-        let next = read_request(alloc, &mut self.held, self.headers.as_mut_slice(), source)?;
+        self.continued = false;
+        let next = read_request(
+            alloc,
+            &mut self.held,
+            self.headers.as_mut_slice(),
+            continued,
+            source,
+        )?;
         self.over = next.is_last();
+        self.continued = next.is_continue();
         Ok(next)
     }
 

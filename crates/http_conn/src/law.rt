@@ -1,14 +1,14 @@
-ghost use Rattle.std.specs.Prelude.{◌≡◌, ◌+◌, ◌<◌, ◌++◌, ◌∷◌, [], length, false, List, ℕ};
+ghost use Rattle.std.specs.Prelude.{◌≡◌, ◌+◌, ◌<◌, ◌++◌, ◌∷◌, [], length, false, Bool, List, ℕ};
 ghost use Rattle.http_conn.specs.Next.{Gives};
 ghost use Rattle.http_conn.specs.Stream.{Stream, Ending, Begins, IsRequest, is_closed, max_requests};
 ghost use Rattle.http_conn.specs.declared.request.Next.{Next as NextOf};
 ghost use Rattle.http_conn.specs.declared.request.Request.{Request as RequestOf};
 
-/// The bytes give one answer and one rest: no two cases of the definition stand together, and a
-/// request is fixed by its bytes.
+/// The bytes give one answer and one rest, before `Continue` was given and after it: no two cases of
+/// the definition stand together, and a request is fixed by its bytes.
 pub fn bytes_give_one_answer()
-    ensures { (all : List ℕ) (a b : NextOf) (rest rest2 : List ℕ) → Gives all a rest
-        → Gives all b rest2 → (a ≡ b) × (rest ≡ rest2) }
+    ensures { (continued : Bool) (all : List ℕ) (a b : NextOf) (rest rest2 : List ℕ)
+        → Gives continued all a rest → Gives continued all b rest2 → (a ≡ b) × (rest ≡ rest2) }
 {}
 
 /// The bytes have one list of requests and one ending.

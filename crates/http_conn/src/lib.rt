@@ -8,7 +8,7 @@ mod law;
 mod request;
 mod whole;
 
-pub use connection::Connection;
+pub use connection::{Connection, interim_response};
 pub use law::{
     bytes_give_one_answer, bytes_have_one_stream, requests_go_on, requests_stand_in_what_was_read,
 };

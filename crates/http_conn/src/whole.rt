@@ -8,7 +8,7 @@ ghost use Rattle.http_head.specs.Parts.{IsHead};
 use crate::Request;
 use gate_io::{Items, Text};
 use http::Method;
-use http_head::{Head, asked_text, asks_close, is_encoded, joined_values};
+use http_head::{Head, asked_text, asks_close, awaits_interim, is_encoded, joined_values};
 use httparse::spans::HeaderSpan;
 use std::alloc::{AllocError, Global};
 
@@ -59,6 +59,7 @@ pub(crate) fn make_request(
         content_type,
         encoded: is_encoded(buf, fields),
         close: asks_close(buf, fields, spans.version),
+        expects: awaits_interim(buf, headers, head),
         body: Items::from_vec(Vec::new(alloc)),
     })
 }

@@ -1,6 +1,6 @@
 -- A head at the front stays there whatever follows.
 use Rattle.std.proofs.Common.{◌≡◌, ℕ, ◌-◌, ◌≤◌, List, [], ◌∷◌, ◌++◌, length, take, drop, map, refl, ap, sym, subst, ◌∙◌, arith, length-append, length-drop, length-take}
-use Rattle.std.specs.Prelude.{All}
+use Rattle.std.specs.Prelude.{All, Bool, Ok, ◌&&◌}
 use Rattle.std.proofs.lemmas.List.{take-append-le, drop-append-le, take-append-drop, append-nil}
 use Rattle.std.proofs.lemmas.List.Elements.{All-head, All-tail}
 use Rattle.std.proofs.Math.Seq.{take-append_seam}
@@ -9,7 +9,9 @@ use Rattle.httparse.specs.Spans.{IsRequestAt, IsRequestWithin, IsHeaderWithin, h
 use Rattle.httparse.specs.declared.spans.Span.{Span}
 use Rattle.httparse.specs.declared.spans.HeaderSpan.{HeaderSpan}
 use Rattle.httparse.proofs.GrammarLemmas.{ReadsRequest-append}
-use Rattle.http_head.specs.Head.{HasHead, HasNoHead, IsRefused, max_head}
+use Rattle.http_head.specs.Head.{HasHead, HasNoHead, IsRefused, awaits, fields_of, frame, max_head, tells_body}
+use Rattle.http_head.specs.Fields.{asks_interim, has_body}
+use Rattle.http_head.specs.declared.fields.Framing.{Framing}
 use Rattle.http_head.specs.Parts.{IsHead}
 use Rattle.http_head.specs.declared.verdict.Head.{Head}
 
@@ -110,3 +112,8 @@ full_none held long none =
 pub front_has_head : (held : List ℕ) (n : ℕ) (head : RequestHead) (after : List ℕ) → HasNoHead held → HasHead (take n held) head after → ⊥
 front_has_head held n head after none at =
     none head (after ++ drop n held) (subst (λ (l : List ℕ). HasHead l head (after ++ drop n held)) (take-append-drop n held) (HasHead-append (take n held) (drop n held) head after at))
+
+-- the parts of what a head that is served awaits
+pub awaits_parts : (h : RequestHead) (f : Framing) (a b : Bool) → frame h ≡ Ok f → a ≡ asks_interim h.minor (fields_of h) → b ≡ has_body f → (a && b) ≡ awaits h
+awaits_parts h f a b told asks has =
+    ap (λ (x : Bool). x && b) asks ∙ ap (λ (x : Bool). asks_interim h.minor (fields_of h) && x) (has ∙ sym (ap tells_body told))

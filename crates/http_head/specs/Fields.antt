@@ -73,6 +73,11 @@ abbrev pub FramingFits : Framing → Type 0
 FramingFits (Length size) = size ≤ max_body
 FramingFits Chunks = ⊤
 
+-- a body follows the head: its length is above 0, or it comes in chunks
+abbrev pub has_body : Framing → Bool
+has_body (Length size) = nat_lt 0 size
+has_body Chunks = true
+
 -- there is one field of that name
 abbrev pub is_single : List (List ℕ) → Bool
 is_single [] = false
@@ -99,12 +104,10 @@ asks_close minor fields = minor == 0 || list_any (has_member (codes "close")) (v
 abbrev pub max_fields : ℕ
 max_fields = 64
 
--- The framing of the body that a head tells, or the status that refuses it: the tests stand in their order. No body is served
--- behind the interim response.
+-- the framing of the body that a head tells, or the status that refuses it: the tests stand in their order
 unfoldable pub frame_of : ℕ → List ℕ → List (List ℕ × List ℕ) → Result Framing ℕ
 frame_of minor target fields =
     if nat_lt max_fields (length fields) then Err 431 else
     if not (is_hosted minor fields) then Err 400 else
     if not (is_served target) then Err 400 else
-    if asks_interim minor fields then Err 400 else
     framing_of minor (values_of (codes "transfer-encoding") fields) (values_of (codes "content-length") fields)

@@ -1,8 +1,8 @@
 -- A head at the front of bytes (RFC 9112), by the grammar of `httparse`, and what it tells of its body.
-use Rattle.std.specs.Prelude.{◌≡◌, ℕ, ◌≤◌, List, length, map, Result, Err}
+use Rattle.std.specs.Prelude.{◌≡◌, ℕ, ◌≤◌, List, length, map, Result, Ok, Err, Bool, false, ◌&&◌}
 use Rattle.httparse.specs.Grammar.{RequestHead, ReadsRequest, print_request}
 use Rattle.httparse.specs.Spans.{name_and_value}
-use Rattle.http_head.specs.Fields.{frame_of}
+use Rattle.http_head.specs.Fields.{asks_interim, frame_of, has_body}
 use Rattle.http_head.specs.declared.fields.Framing.{Framing}
 
 -- the longest head
@@ -25,6 +25,16 @@ fields_of head = map name_and_value head.fields
 -- the framing of the body that a head tells, or the status that refuses it
 abbrev pub frame : RequestHead → Result Framing ℕ
 frame head = frame_of head.minor head.target (fields_of head)
+
+-- a head that isn't refused tells a body
+abbrev pub tells_body : Result Framing ℕ → Bool
+tells_body (Ok framing) = has_body framing
+tells_body (Err code) = false
+
+-- the client may wait for the interim response before it sends the body (RFC 9110, section 10.1.1): HTTP/1.1, the expectation
+-- `100-continue`, and a body to come
+abbrev pub awaits : RequestHead → Bool
+awaits head = asks_interim head.minor (fields_of head) && tells_body (frame head)
 
 -- a whole head that is refused with this status
 pub record IsRefused (bytes : List ℕ) (code : ℕ) : Type 0 where

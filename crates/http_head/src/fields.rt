@@ -4,7 +4,7 @@ ghost use Rattle.std.specs.Str.Parse.{digits_value};
 ghost use Rattle.std.specs.Str.{bytes_eq};
 ghost use Rattle.std.specs.Char.{to_ascii_lowercase, is_ascii_digit};
 ghost use Rattle.httparse.specs.Spans.{header_bytes, IsHeaderWithin, IsWithin};
-ghost use Rattle.http_head.specs.Fields.{values_of, is_absent, size_in, size_of, by_length, by_coding, framing_of, FramingFits, frame_of, is_encoding, is_hosted, is_interim, asks_interim, asks_close, joined, max_body};
+ghost use Rattle.http_head.specs.Fields.{values_of, is_absent, size_in, size_of, by_length, by_coding, framing_of, FramingFits, has_body, frame_of, is_encoding, is_hosted, is_interim, asks_interim, asks_close, joined, max_body};
 ghost use Rattle.http_head.specs.Parts.{FoundIs, JoinedIs, found_absent, found_single, more_found};
 ghost use Rattle.http_head.specs.Member.{has_member};
 
@@ -23,6 +23,18 @@ const MAX_FIELDS: usize = 64;
 pub enum Framing {
     Length(usize),
     Chunks,
+}
+
+impl Framing {
+    /// The body isn't empty, or may not be: its length is above 0, or it comes in chunks.
+    pub(crate) fn has_body(self) -> bool
+        ensures { result ≡ has_body self }
+    {
+        match self {
+            Framing::Length(size) => size > 0,
+            Framing::Chunks => true,
+        }
+    }
 }
 
 /// The fields of one name.
@@ -206,9 +218,6 @@ pub(crate) fn head_framing(
     if !is_served(target) {
         return Err(400);
     }
-    if asks_interim(buf, headers, version) {
-        return Err(400);
-    }
     told_framing(buf, headers, version)
 }
 
@@ -312,7 +321,7 @@ fn is_expected(buf: &[u8], headers: &[HeaderSpan]) -> bool
 }
 
 /// An HTTP/1.1 request asks for the interim response before its body.
-fn asks_interim(buf: &[u8], headers: &[HeaderSpan], version: u8) -> bool
+pub(crate) fn asks_interim(buf: &[u8], headers: &[HeaderSpan], version: u8) -> bool
     requires { All (IsHeaderWithin (length buf.now)) headers.now }
     ensures { result ≡ asks_interim version (map (header_bytes buf.now) headers.now) }
 {

@@ -11,4 +11,4 @@ mod verdict;
 pub use asked::asked_text;
 pub use fields::{Framing, asks_close, is_encoded, joined_values};
 pub use member::{first_member, is_word};
-pub use verdict::{Head, Verdict, judge};
+pub use verdict::{Head, Verdict, awaits_interim, judge};

@@ -1,9 +1,10 @@
-ghost use Rattle.std.specs.Prelude.{◌≡◌, ◌≤◌, length};
+ghost use Rattle.std.specs.Prelude.{◌≡◌, ◌≤◌, length, List, ℕ};
+ghost use Rattle.httparse.specs.Grammar.{RequestHead};
 ghost use Rattle.httparse.specs.Spans.{IsRequestWithin, IsRequestOf};
-ghost use Rattle.http_head.specs.Head.{max_head};
-ghost use Rattle.http_head.specs.Parts.{Judges, max_spans};
+ghost use Rattle.http_head.specs.Head.{max_head, HasHead, awaits};
+ghost use Rattle.http_head.specs.Parts.{IsHead, Judges, max_spans};
 
-use crate::fields::{Framing, head_framing};
+use crate::fields::{Framing, asks_interim, head_framing};
 use crate::target::ends_in_target;
 use httparse::Status;
 use httparse::spans::{HeaderSpan, RequestSpans, parse_request};
@@ -55,4 +56,14 @@ pub fn judge(buf: &[u8], headers: &mut [HeaderSpan]) -> Verdict
             }
         }
     }
+}
+
+/// The client may wait for the interim response before it sends the body (RFC 9110, section 10.1.1).
+pub fn awaits_interim(buf: &[u8], headers: &[HeaderSpan], head: Head) -> bool
+    requires { IsHead buf.now headers.now head }
+    ensures { (tree : RequestHead) (after : List ℕ) → HasHead buf.now tree after
+        → result ≡ awaits tree }
+{
+    let fields = &headers[..head.spans.headers];
+    asks_interim(buf, fields, head.spans.version) && head.framing.has_body()
 }

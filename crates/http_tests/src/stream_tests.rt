@@ -164,7 +164,7 @@ fn pieces_of_any_size_give_the_same_requests(rt: HostRuntime) -> Result<(), Fail
     end_so(&rt, rt.alloc(), &PIECES)
 }
 
-const ENDINGS: [(&str, &[u8], usize, &str); 21] = [
+const ENDINGS: [(&str, &[u8], usize, &str); 20] = [
     ("nothing", b"", 5, "end"),
     ("blank lines alone", b"\r\n\r\n", 5, "cut;end"),
     (
@@ -179,12 +179,6 @@ const ENDINGS: [(&str, &[u8], usize, &str); 21] = [
         b"GET / HTTP/1.1\r\nHost:p\r\nContent-Length: 2\r\n\r\nx",
         5,
         "cut;end",
-    ),
-    (
-        "an expectation",
-        b"GET / HTTP/1.1\r\nHost:p\r\nExpect: 100-continue\r\n\r\n",
-        5,
-        "400;end",
     ),
     (
         "two lengths",
@@ -274,7 +268,7 @@ fn each_ending_is_the_definitions(rt: HostRuntime) -> Result<(), Fail> {
 }
 
 /// Behind each of these heads stands a whole request, which is read unless the first one closes.
-const CLOSINGS: [(&str, &[u8], usize, &str); 9] = [
+const CLOSINGS: [(&str, &[u8], usize, &str); 7] = [
     (
         "HTTP/1.0",
         b"GET / HTTP/1.0\n\nGET /b HTTP/1.0\n\n",
@@ -317,23 +311,103 @@ const CLOSINGS: [(&str, &[u8], usize, &str); 9] = [
         9,
         "GET|/||-|-|plain|open|;GET|/b||-|-|plain|close|;end",
     ),
-    (
-        "an expectation of HTTP/1.0",
-        b"GET / HTTP/1.0\nExpect: 100-continue\n\n",
-        9,
-        "GET|/||-|-|plain|close|;end",
-    ),
-    (
-        "another expectation",
-        b"GET / HTTP/1.1\nHost:p\nExpect: x\n\n",
-        9,
-        "GET|/||-|-|plain|open|;end",
-    ),
 ];
 
 #[test]
 fn a_request_that_closes_is_the_last(rt: HostRuntime) -> Result<(), Fail> {
     end_so(&rt, rt.alloc(), &CLOSINGS)
+}
+
+const EXPECTATIONS: [(&str, &[u8], usize, &str); 14] = [
+    (
+        "a body of a length",
+        b"POST / HTTP/1.1\nHost:p\nExpect: 100-continue\nContent-Length: 2\n\nxy",
+        9,
+        "continue;POST|/||-|-|plain|open|xy;end",
+    ),
+    (
+        "a body in chunks",
+        b"POST / HTTP/1.1\nHost:p\nEXPECT: 100-Continue\nTransfer-Encoding: chunked\n\n2\r\n",
+        9,
+        "continue;cut;end",
+    ),
+    (
+        "all bytes at once",
+        b"POST / HTTP/1.1\nHost:p\nExpect:100-continue\nTransfer-Encoding: chunked\n\n1\r\nx\r\n0\r\n\r\n",
+        999,
+        "continue;POST|/||-|-|plain|open|x;end",
+    ),
+    (
+        "a second field",
+        b"POST / HTTP/1.1\nHost:p\nExpect: x\nExpect: 100-continue\nContent-Length: 1\n\nx",
+        999,
+        "continue;POST|/||-|-|plain|open|x;end",
+    ),
+    (
+        "two requests",
+        b"POST / HTTP/1.1\nHost:p\nExpect: 100-continue\nContent-Length: 1\n\nxPOST /b HTTP/1.1\nHost:p\nExpect: 100-continue\nContent-Length: 1\nConnection: close\n\ny",
+        999,
+        "continue;POST|/||-|-|plain|open|x;continue;POST|/b||-|-|plain|close|y;end",
+    ),
+    (
+        "a body that is refused",
+        b"POST / HTTP/1.1\nHost:p\nExpect: 100-continue\nTransfer-Encoding: chunked\n\nx",
+        999,
+        "continue;400;end",
+    ),
+    (
+        "no body",
+        b"GET / HTTP/1.1\nHost:p\nExpect: 100-continue\n\n",
+        9,
+        "GET|/||-|-|plain|open|;end",
+    ),
+    (
+        "an empty body",
+        b"POST / HTTP/1.1\nHost:p\nExpect: 100-continue\nContent-Length: 0\n\n",
+        9,
+        "POST|/||-|-|plain|open|;end",
+    ),
+    (
+        "a head that is refused",
+        b"POST / HTTP/1.1\nExpect: 100-continue\nContent-Length: 1\n\nx",
+        9,
+        "400;end",
+    ),
+    (
+        "a length above the largest",
+        b"POST / HTTP/1.1\nHost:p\nExpect: 100-continue\nContent-Length: 8388609\n\n",
+        9,
+        "413;end",
+    ),
+    (
+        "HTTP/1.0",
+        b"POST / HTTP/1.0\nExpect: 100-continue\nContent-Length: 1\n\nx",
+        9,
+        "POST|/||-|-|plain|close|x;end",
+    ),
+    (
+        "another expectation",
+        b"POST / HTTP/1.1\nHost:p\nExpect: x\nContent-Length: 1\n\nx",
+        9,
+        "POST|/||-|-|plain|open|x;end",
+    ),
+    (
+        "one among others",
+        b"POST / HTTP/1.1\nHost:p\nExpect: 100-continue, x\nContent-Length: 1\n\nx",
+        9,
+        "POST|/||-|-|plain|open|x;end",
+    ),
+    (
+        "a head that is cut",
+        b"POST / HTTP/1.1\nHost:p\nExpect: 100-continue\nContent-Length: 1\n",
+        9,
+        "cut;end",
+    ),
+];
+
+#[test]
+fn the_interim_response_is_asked_for_once_before_a_body(rt: HostRuntime) -> Result<(), Fail> {
+    end_so(&rt, rt.alloc(), &EXPECTATIONS)
 }
 
 const TARGETS: [(&str, &[u8], usize, &str); 6] = [
@@ -528,7 +602,10 @@ const SHORT: &[u8] = b"GET / HTTP/1.1\nHost:p\r\n\ntail";
 const EVEN: &[u8] =
     b"GET / HTTP/1.1\nHost:p\nContent-Length: 44\r\n\r\n01234567890123456789012345678901234567890123tail";
 
-const FIRSTS: [(&str, &[u8], usize, &str); 5] = [
+/// A head of 63 bytes that awaits the interim response.
+const AWAITING: &[u8] = b"POST / HTTP/1.1\nHost:p\nExpect: 100-continue\nContent-Length: 4\n\ntail";
+
+const FIRSTS: [(&str, &[u8], usize, &str); 7] = [
     ("three pieces", SHORT, 8, "GET|/||-|-|plain|open|;tail"),
     ("two pieces", SHORT, 12, "GET|/||-|-|plain|open|;tail"),
     ("one piece", SHORT, 24, "GET|/||-|-|plain|open|;tail"),
@@ -538,6 +615,8 @@ const FIRSTS: [(&str, &[u8], usize, &str); 5] = [
         44,
         "GET|/||-|-|plain|open|01234567890123456789012345678901234567890123;tail",
     ),
+    ("the interim response", AWAITING, 63, "continue;tail"),
+    ("it behind three pieces", AWAITING, 21, "continue;tail"),
     (
         "the body in parts",
         EVEN,

@@ -1,9 +1,12 @@
 pub mod Answers
+pub mod Choosing
 pub mod Counting
 pub mod FourLemmas
 pub mod Ends
 pub mod Groups
+pub mod MappedLemmas
 pub mod Places
 pub mod Plain
+pub mod Sending
 pub mod Telling
 pub mod ReversedLemmas

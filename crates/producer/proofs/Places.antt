@@ -8,14 +8,7 @@ use Rattle.std.proofs.lemmas.Grind.{common_steps}
 use Rattle.model.specs.state.Entry.{Payload}
 use Rattle.broker_link.specs.declared.link.PartRecords.{PartRecords}
 use Rattle.producer.specs.declared.told.Cursor.{Cursor}
-use Rattle.rest_calls.specs.declared.call.Row.{Row}
 use Rattle.producer.specs.Groups.{new_of, put_in, code_at, next_at, bump, bumped}
-use Rattle.model.specs.step.Produced.{chosen}
-use Rattle.model.specs.step.Produced.{or_named, partition_of}
-use Rattle.rest_calls.specs.Views.{given_of, bytes_of, NamesPartition}
-use Rattle.producer.specs.Payloads.{number_in, payload_of}
-use Rattle.std.specs.Prelude.{All, option_map}
-use Rattle.std.proofs.lemmas.List.Elements.{All-head, All-tail}
 
 -- the first that passes the test stands there
 pub record IsFirst {X : Type 0} (p : X → Bool) (xs : List X) (i : ℕ) (x : X) : Type 0 where
@@ -97,21 +90,3 @@ part_none p (x ∷ xs) is =
     let e : (nat_abs x.partition == p.partition) ≡ false = both.0 in
     let ih = part_none p xs both.1 in
     rw e (ap (λ l. x ∷ l) ih)
-
-pub numbers_are : (rows : List Row) → map number_in rows ≡ map (λ (p : Payload). p.partition) (map payload_of rows)
-numbers_are [] = refl
-numbers_are (r ∷ rs) = ap (λ l. number_in r ∷ l) (numbers_are rs)
-
-pub as_many : (rows : List Row) → length (map payload_of rows) ≡ length rows
-as_many [] = refl
-as_many (r ∷ rs) = ap (λ n. suc n) (as_many rs)
-
--- records that all name their partition are chosen as they stand
-pub named_chosen : (n index : ℕ) (rows : List Row) → All NamesPartition rows → chosen n index (map given_of rows) ≡ map payload_of rows
-named_chosen n index [] named = refl
-named_chosen n index (r ∷ rs) named =
-    let here = All-head NamesPartition r rs named in
-    let payload : ℕ → Payload = λ m. record { partition = m; key = bytes_of r.key; value = bytes_of r.value } in
-    let same : or_named (option_map nat_abs r.partition) (partition_of (bytes_of r.key) index n) ≡ number_in r =
-    ap (λ (o : Option ℤ). or_named (option_map nat_abs o) (partition_of (bytes_of r.key) index n)) here.1 ∙ sym (ap (λ (o : Option ℤ). or_named (option_map nat_abs o) 0) here.1) in
-    ap (λ m. payload m ∷ chosen n (index + 1) (map given_of rs)) same ∙ ap (λ l. payload_of r ∷ l) (named_chosen n (index + 1) rs (All-tail NamesPartition r rs named))

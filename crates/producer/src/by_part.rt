@@ -1,24 +1,36 @@
-ghost use Rattle.std.specs.Prelude.{◌≡◌, ◌==◌, ◌<◌, ◌^◌, ℕ, pos, nat_abs, Option, List, [], ◌∷◌, map, length, reverse, All, IfOk, OnOk, OnErr, IfSome};
+ghost use Rattle.std.specs.Prelude.{◌≡◌, ◌==◌, ◌<◌, ◌≤◌, ◌^◌, ℕ, pos, nat_abs, Option, List, [], ◌∷◌, map, length, reverse, All, IfOk, OnOk, OnErr, IfSome, option_map};
 ghost use Rattle.std.specs.List.{position};
 ghost use Rattle.model.specs.state.Entry.{Payload as Item};
 ghost use Rattle.broker_link.specs.declared.link.PartRecords.{PartRecords as Part};
-ghost use Rattle.rest_calls.specs.Views.{bytes_of, NamesPartition};
-ghost use Rattle.producer.specs.Groups.{grouped, new_of, put_in};
-ghost use Rattle.producer.specs.Payloads.{number_in, payload_of};
+ghost use Rattle.rest_calls.specs.Views.{bytes_of, PartitionFits};
+ghost use Rattle.producer.specs.Groups.{grouped, put_in};
+ghost use Rattle.producer.specs.Payloads.{number_at, payloads_of};
 
+use crate::partition::partition_of;
 use broker_link::{NewRecord, PartRecords};
 use gate_io::Items;
 use rest_calls::{Payload, Row};
 use std::alloc::{AllocError, Global};
 
-/// The number of the partition that the record names.
-pub(crate) fn number_of(row: &Row) -> u32
-    ensures value { result ≡ number_in row.now }
-    ensures low { NamesPartition row.now → result < 2 ^ 31 }
+fn bytes_in(payload: &Payload) -> Option<&[u8]>
+    ensures { option_map (λ bytes. bytes.now) result ≡ bytes_of payload.now }
+{
+    match payload {
+        Payload::Null => None,
+        Payload::Ready(bytes) => Some(bytes.as_slice()),
+    }
+}
+
+/// The partition, of `count`, of the record at this index of its request: the one that it names, or
+/// one by its key or its index.
+fn number_of(row: &Row, index: usize, count: u32) -> u32
+    requires { 0 < count × count ≤ 2 ^ 31 }
+    ensures value { result ≡ number_at count index row.now }
+    ensures low { PartitionFits row.now → result < 2 ^ 31 }
 {
     match row.partition {
         Some(partition) => partition.unsigned_abs(),
-        None => 0,
+        None => partition_of(bytes_in(&row.key), index, count),
     }
 }
 
@@ -41,7 +53,7 @@ fn stored(payload: Payload) -> Option<Items<u8>>
 }
 
 fn new_record(row: Row) -> NewRecord
-    ensures { result ≡ new_of (payload_of row) }
+    ensures { result ≡ record { key = bytes_of row.key; value = bytes_of row.value } }
 {
     NewRecord {
         key: stored(row.key),
@@ -92,15 +104,25 @@ fn reversed(alloc: Global, mut rows: Items<Row>) -> Result<Vec<Row>, AllocError>
     Ok(reversed)
 }
 
-/// The records by partition, in request order within each. Keys and values are moved.
-pub(crate) fn group(alloc: Global, rows: Items<Row>) -> Result<Vec<PartRecords>, AllocError>
-    requires named { All NamesPartition rows }
-    ensures { IfOk result (λ parts. parts.items ≡ grouped [] (map payload_of rows)) }
+/// The records by partition of a topic of `count`, in request order within each, and the partition of
+/// each record. Keys and values are moved.
+pub(crate) fn group(
+    alloc: Global,
+    rows: Items<Row>,
+    count: u32,
+) -> Result<(Vec<PartRecords>, Vec<u32>), AllocError>
+    requires some { 0 < count × count ≤ 2 ^ 31 }
+    requires fit { All PartitionFits rows }
+    ensures parts { IfOk result (λ both. both.0.items ≡ grouped [] (payloads_of count rows)) }
+    ensures numbers { IfOk result (λ both. both.1.items ≡ map (λ p. p.partition) (payloads_of count rows)) }
 {
     let mut left = reversed(alloc, rows)?;
     let mut parts = Vec::new(alloc);
+    let mut numbers = Vec::with_capacity(alloc, left.len())?;
     while let Some(row) = left.pop() {
-        put_record(alloc, &mut parts, number_of(&row), new_record(row))?;
+        let number = number_of(&row, numbers.len(), count);
+        put_record(alloc, &mut parts, number, new_record(row))?;
+        numbers.push(number)?;
     }
-    Ok(parts)
+    Ok((parts, numbers))
 }

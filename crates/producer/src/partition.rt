@@ -61,12 +61,12 @@ fn murmur2(key: &[u8]) -> u32
 
 /// The partition, of `count`, of a record that names none: by its key's murmur2 hash without the sign
 /// bit, as Kafka's default partitioner has it, or without a key by the record's index in its request.
-pub fn partition_of(key: Option<&[u8]>, index: u32, count: u32) -> u32
+pub fn partition_of(key: Option<&[u8]>, index: usize, count: u32) -> u32
     requires { 0 < count }
     ensures { result ≡ partition_of (option_map (λ k. k.now) key.entry) index count }
 {
     match key {
         Some(key) => murmur2(key) % 0x8000_0000 % count,
-        None => index % count,
+        None => (index % count as usize) as u32,
     }
 }

@@ -1,13 +1,12 @@
-ghost use Rattle.std.specs.Prelude.{◌≡◌, ◌<◌, ◌≢◌, ◌^◌, ℕ, List, All, length, Some, Err, Result};
-ghost use Rattle.model.specs.state.Log.{IsLog};
+ghost use Rattle.std.specs.Prelude.{◌≡◌, ◌<◌, ◌≤◌, ◌≢◌, ◌^◌, ℕ, List, All, length, Err, Result, IfSome};
 ghost use Rattle.model.specs.step.Fixed.{SameCommits};
-ghost use Rattle.model.specs.step.Step.{ProduceEnds};
 ghost use Rattle.broker_link.specs.declared.link.LinkNo.TheVariants.{Want as LinkWant};
-ghost use Rattle.rest_calls.specs.Views.{batch_of, NamesPartition};
-ghost use Rattle.broker_link.specs.Replies.{IsCounted, IsGood, link_reply};
+ghost use Rattle.broker_link.specs.Replies.{IsCounted, link_reply};
 ghost use Rattle.broker_link.specs.Stands.{Goes, IsOnceAtMost};
+ghost use Rattle.rest_calls.specs.Views.{PartitionFits};
 ghost use Rattle.rest_replies.specs.Answer.{refusal_reply, reply_of};
 ghost use Rattle.rest_replies.specs.declared.answer.ProduceNo.TheVariants.{Link as LinkFailed};
+ghost use Rattle.producer.specs.Request.{EndsTold, IsGoodPlainly};
 
 use crate::parts::are_within;
 use crate::send::send_parts;
@@ -27,9 +26,21 @@ fn failed(e: LinkNo) -> ProduceNo
     }
 }
 
+/// How many partitions, where their numbers are those of Kafka.
+fn as_number(count: usize) -> Option<u32>
+    ensures some { IfSome result (λ n. n ≡ count) }
+    ensures few { IfSome result (λ n. n ≤ 2 ^ 31) }
+{
+    if count <= 1 << 31 {
+        Some(count as u32)
+    } else {
+        None
+    }
+}
+
 /// Stores the records of a request, with at most one produce call, which is given `now`, and answers
-/// each in request order. Nothing is sent but metadata before the topic and each partition are known.
-#[tactic(auto, using(broker_link::proofs::Going::goes_on))]
+/// each in request order. A record that names no partition gets one by `partition_of`. Nothing is sent
+/// but metadata before the topic and each partition are known.
 pub fn produce<L: Link>(
     alloc: Global,
     now: u64,
@@ -39,9 +50,8 @@ pub fn produce<L: Link>(
 ) -> Result<Items<Told>, ProduceNo>
     requires some { 0 < length batch.rows }
     requires few { length batch.rows < 2 ^ 63 }
-    requires named { All NamesPartition batch.rows }
-    ensures ends { (L.stand link.old).tells → IsLog (L.stand link.old).log → ProduceEnds (L.stand link.old).log (L.stand link.new).log topic.now (batch_of batch) (Some (reply_of result)) }
-
+    requires fit { All PartitionFits batch.rows }
+    ensures ends { EndsTold (L.stand link.old) (L.stand link.new) topic.now batch (reply_of result) }
     ensures apart { result ≢ Err (LinkFailed LinkWant) }
 
     ensures goes { Goes (L.stand link.old) (L.stand link.new) }
@@ -49,7 +59,7 @@ pub fn produce<L: Link>(
     ensures commits { (L.stand link.old).tells → SameCommits (L.stand link.old).log (L.stand link.new).log }
 
     ensures counts { IsCounted (L.stand link.old).counts (L.stand link.new).counts (reply_of result) }
-    ensures good { (L.stand link.old).plain → (L.stand link.old).tells → IsLog (L.stand link.old).log → IsGood (reply_of result) }
+    ensures good { IsGoodPlainly (L.stand link.old) (reply_of result) }
 {
     let count = match count_parts(alloc, link, topic) {
         Ok(Some(count)) => count,
@@ -59,7 +69,10 @@ pub fn produce<L: Link>(
     if !are_within(batch.rows.as_slice(), count) {
         return Err(ProduceNo::NoPartition);
     }
-    match send_parts(alloc, now, link, topic, batch.rows) {
+    let Some(count) = as_number(count) else {
+        return Err(ProduceNo::Want);
+    };
+    match send_parts(alloc, now, link, topic, batch.rows, count) {
         Ok(told) => Ok(told),
         Err(e) => Err(failed(e)),
     }

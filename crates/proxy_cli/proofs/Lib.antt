@@ -1,4 +1,5 @@
 pub mod Answered
+pub mod Finding
 pub mod Progress
 pub mod Ran
 pub mod Sending

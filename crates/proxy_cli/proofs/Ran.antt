@@ -1,6 +1,5 @@
 -- What a run of a session owes, by how its words read and how its requests were served.
 use Rattle.std.proofs.Common.{◌≡◌, ◌∙◌, ℕ, List, refl, sym, arith, inl, inr, Option, Some, None, Result, Ok, Err}
-use Rattle.std.specs.Prelude.{◌⊎◌}
 use Rattle.gate_io.specs.Clocks.{Hand}
 use Rattle.gate_io.specs.Counts.{Rose}
 use Rattle.http_conn.specs.declared.request.ConnNo.{ConnNo}

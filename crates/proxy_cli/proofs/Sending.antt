@@ -1,5 +1,5 @@
 -- Sending the response to a reply.
-use Rattle.std.proofs.Common.{◌≡◌, ◌<◌, ℕ, List, Bool, Option, Result, Ok, Err, refl, subst, length, take}
+use Rattle.std.proofs.Common.{◌≡◌, ℕ, List, Bool, Option, Result, Ok, Err, refl, subst}
 use Rattle.std.specs.Prelude.{OnOk, OnErr}
 use Rattle.std.specs.Io.KnownBytes.{Appends}
 use Rattle.http_conn.specs.declared.request.ConnNo.{ConnNo}

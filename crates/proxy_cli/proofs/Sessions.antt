@@ -26,13 +26,13 @@ module _ (answers answers2 : Said) (so : (qs : List Request) (rs : List Reply) �
   some_so left left2 held held2 said = λ input is.
       let x = said input is in
       let w = x.4 in
-      (x.0, x.1, x.2, x.3, record { requests = w.requests; stream = w.stream; replies = w.replies; answered = so w.requests w.replies w.answered; output = w.output })
+      (x.0, x.1, x.2, x.3, record { requests = w.requests; stream = w.stream; replies = w.replies; answered = so w.requests w.replies w.answered; due = w.due; is_due = w.is_due; output = w.output })
 
   first_so : (left held held2 : Option (List ℕ)) → ServesFirst answers left held held2 → ServesFirst answers2 left held held2
   first_so left held held2 said = λ input is.
       let x = said input is in
       let w = x.2 in
-      (x.0, x.1, record { requests = w.requests; rest = w.rest; begins = w.begins; replies = w.replies; answered = so w.requests w.replies w.answered; output = w.output })
+      (x.0, x.1, record { requests = w.requests; rest = w.rest; begins = w.begins; replies = w.replies; answered = so w.requests w.replies w.answered; asked = w.asked; was_due = w.was_due; output = w.output })
 
   until_so : {S : Type 0} (left asked : S → Option (List ℕ)) (old new : S) (held held2 : Option (List ℕ)) (n : ℕ) → ServesUntil left asked old new answers held held2 n → ServesUntil left asked old new answers2 held held2 n
   until_so left asked old new held held2 n said = λ input is.

@@ -1,5 +1,5 @@
 -- Requests, the replies that they were given, and the entries of the history that these come from.
-use Rattle.std.specs.Prelude.{◌≡◌, ◌⊎◌, ◌||◌, ◌==◌, ℕ, ◌+◌, List, [], ◌∷◌, ◌++◌, All, Contains, Bool, false, sum_by}
+use Rattle.std.specs.Prelude.{◌≡◌, ◌⊎◌, ◌||◌, ◌==◌, ℕ, ◌+◌, List, [], ◌∷◌, ◌++◌, All, Contains, Bool, true, false, sum_by}
 use Rattle.gate_io.specs.Clocks.{Hand}
 use Rattle.model.specs.state.Log.{IsLog, Log, TopicPart, Row, rows_in_all}
 use Rattle.model.specs.step.Walk.{Item}
@@ -16,7 +16,7 @@ use Rattle.rest_codes.specs.Response.{response_of}
 use Rattle.rest_codes.specs.declared.response.Reply.{Reply}
 use Rattle.rest_codes.specs.declared.response.Reply.TheVariants.{Want}
 use Rattle.http_conn.specs.declared.request.Request.{Request}
-use Rattle.http_conn.specs.Stream.{max_requests}
+use Rattle.http_conn.specs.Stream.{interim_bytes, max_requests}
 use Rattle.desk.specs.Step.{no_expiry}
 use Rattle.desk.specs.Runs.{State, IsAnswered, Runs, named_after, state_of}
 use Rattle.desk.specs.declared.alone_desk.AloneDesk.{AloneDesk}
@@ -113,8 +113,17 @@ ExchangesAll stand ticks hand desk clock desk2 clock2 requests replies =
 abbrev pub closes : ℕ → Request → Bool
 closes n request = request.close || (n + 1 == max_requests)
 
--- the responses to the requests behind n others
+-- the interim response where it is due
+abbrev pub interim_if : Bool → List ℕ
+interim_if true = interim_bytes
+interim_if false = []
+
+-- what is written for the request behind n others: the interim response if it was due, and the response to the reply
+abbrev pub exchange_of : ℕ → Request → Reply → List ℕ
+exchange_of n request r = interim_if request.expects ++ response_of r (closes n request)
+
+-- what is written for the requests behind n others
 abbrev pub responses : ℕ → List Request → List Reply → List ℕ
 responses n [] replies = []
 responses n (request ∷ requests) [] = []
-responses n (request ∷ requests) (r ∷ replies) = response_of r (closes n request) ++ responses (n + 1) requests replies
+responses n (request ∷ requests) (r ∷ replies) = exchange_of n request r ++ responses (n + 1) requests replies

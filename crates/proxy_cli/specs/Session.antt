@@ -1,6 +1,6 @@
 -- A session: what is written for the bytes of its input. `answers` says that requests were answered with replies: that of one
 -- caller over one shard here, and any other for a connection of another kind.
-use Rattle.std.specs.Prelude.{◌≡◌, ◌⊎◌, ◌<◌, ℕ, ◌+◌, List, [], ◌∷◌, ◌++◌, length, take, true, false, Option, Some, ⊤, Result, Ok, Err}
+use Rattle.std.specs.Prelude.{◌≡◌, ◌⊎◌, ◌<◌, ℕ, ◌+◌, List, [], ◌∷◌, ◌++◌, length, take, Bool, true, false, Option, Some, ⊤, Result, Ok, Err}
 use Rattle.std.specs.Io.KnownBytes.{Appends, Consumes}
 use Rattle.gate_io.specs.Clocks.{Hand}
 use Rattle.broker_link.specs.Made.{empty_log, no_counts}
@@ -9,21 +9,25 @@ use Rattle.rest_codes.specs.declared.response.Reply.{Reply}
 use Rattle.http_conn.specs.declared.request.ConnNo.{ConnNo}
 use Rattle.http_conn.specs.declared.request.ConnNo.TheVariants.{ReadFault, WriteFault, Want}
 use Rattle.http_conn.specs.declared.request.Request.{Request}
-use Rattle.http_conn.specs.Stream.{Ending, Stream, StreamSoFar, Begins, IsBad, is_closed}
-use Rattle.http_conn.specs.Stream.Ending.{BadPlace}
+use Rattle.http_conn.specs.Stream.{DueIs, Ending, Stream, StreamSoFar, Begins, IsBad, IsDue, interim_bytes, is_closed}
+use Rattle.http_conn.specs.Stream.Ending.{End, Closed, Limit, CutShort, BadPlace}
 use Rattle.model.specs.state.World.{nobody}
 use Rattle.desk.specs.Step.{no_expiry}
 use Rattle.proxy_cli.specs.Ended.{TellsEnd}
 use Rattle.proxy_cli.specs.declared.ended.Ended.{Ended}
 use Rattle.proxy_cli.specs.Patience.{ReadsBefore, ReadsBehind, Took}
-use Rattle.proxy_cli.specs.Served.{Answering, Gateway, OrWant, closes, responses}
+use Rattle.proxy_cli.specs.Served.{Answering, Gateway, OrWant, closes, exchange_of, interim_if, responses}
 use Rattle.command_words.specs.Words.{advertise_of, plans_of, words_of}
 use Rattle.command_words.specs.declared.words.Command.{Command}
 
--- what is written behind the last response
+-- what is written behind the last response: the interim response if it was due for the request in which the input ends, and the
+-- response to a bad place
 abbrev pub IsLast : Ending → List ℕ → Type 0
-IsLast (BadPlace due r) last = (said : Reply) × OrWant r said × (last ≡ response_of said true)
-IsLast _ last = last ≡ []
+IsLast (BadPlace due r) last = (said : Reply) × OrWant r said × (last ≡ interim_if due ++ response_of said true)
+IsLast (CutShort due) last = last ≡ interim_if due
+IsLast End last = last ≡ []
+IsLast Closed last = last ≡ []
+IsLast Limit last = last ≡ []
 
 -- a session whose input was read to its end, its limit or its first bad place
 pub record Whole (answers : List Request → List Reply → Type 0) (input written : List ℕ) : Type 0 where
@@ -36,36 +40,59 @@ pub record Whole (answers : List Request → List Reply → Type 0) (input writt
   pub ends : IsLast ending last
   pub output : written ≡ responses 0 requests replies ++ last
 
--- a session whose read failed: all whole requests of the bytes that it got were answered
+-- a session whose read failed: all whole requests of the bytes that it got were answered, and the interim response was written if
+-- it is due for what is behind them
 pub record Lost (answers : List Request → List Reply → Type 0) (got written : List ℕ) : Type 0 where
   pub requests : List Request
   pub stream : StreamSoFar got requests
   pub replies : List Reply
   pub answered : answers requests replies
-  pub output : written ≡ responses 0 requests replies
+  pub due : Bool
+  pub is_due : DueIs stream.rest due
+  pub output : written ≡ responses 0 requests replies ++ interim_if due
 
--- a session that found no memory: the first requests of the input were answered, and nothing else was written
+-- a session that found no memory: the first requests of the input were answered, and nothing else was written but an interim
+-- response that was due
 pub record Starved (answers : List Request → List Reply → Type 0) (input written : List ℕ) : Type 0 where
   pub requests : List Request
   pub rest : List ℕ
   pub begins : Begins 0 input requests rest
   pub replies : List Reply
   pub answered : answers requests replies
-  pub output : written ≡ responses 0 requests replies
+  pub asked : Bool
+  pub was_due : asked ≡ true → IsDue rest
+  pub output : written ≡ responses 0 requests replies ++ interim_if asked
 
--- the last of the responses, and those before it
+-- the last of the responses, and what is written before it
 abbrev pub SplitsLast : ℕ → List Request → List Reply → List ℕ → List ℕ → Type 0
 SplitsLast n [] replies before last = ⊥
 SplitsLast n (q ∷ qs) [] before last = ⊥
-SplitsLast n (q ∷ []) (r ∷ rs) before last = (before ≡ []) × (last ≡ response_of r (closes n q))
-SplitsLast n (q ∷ q2 ∷ qs) (r ∷ rs) before last = (mid : List ℕ) × (before ≡ response_of r (closes n q) ++ mid) × SplitsLast (n + 1) (q2 ∷ qs) rs mid last
+SplitsLast n (q ∷ []) (r ∷ rs) before last = (before ≡ interim_if q.expects) × (last ≡ response_of r (closes n q))
+SplitsLast n (q ∷ q2 ∷ qs) (r ∷ rs) before last = (mid : List ℕ) × (before ≡ exchange_of n q r ++ mid) × SplitsLast (n + 1) (q2 ∷ qs) rs mid last
 
--- The response that was cut is that to the last request, and nothing was read once that was whole, or it is that to a bad place
--- behind all requests, of which none closes.
-abbrev pub IsCutResponse : (whole behind : Type 0) → List ℕ → List Request → List Reply → List ℕ → List ℕ → Type 0
-IsCutResponse whole behind rest requests replies before last =
+-- the response to a bad place was cut, behind these responses
+pub record IsCutRefusal (rest responses before last : List ℕ) : Type 0 where
+  pub wanted : Reply
+  pub bad : IsBad rest wanted
+  pub due : Bool
+  pub is_due : DueIs rest due
+  pub front : before ≡ responses ++ interim_if due
+  pub said : Reply
+  pub replied : OrWant wanted said
+  pub response : last ≡ response_of said true
+
+-- the interim response was cut, behind these responses
+pub record IsCutInterim (rest responses before last : List ℕ) : Type 0 where
+  pub due : IsDue rest
+  pub front : before ≡ responses
+  pub response : last ≡ interim_bytes
+
+-- The response that was cut is that to the last request, and nothing was read once that was whole; or it is that to a bad place
+-- behind all requests, of which none closes; or it is the interim response, and nothing was read once that was due.
+abbrev pub IsCutResponse : (whole behind early : Type 0) → List ℕ → List Request → List Reply → List ℕ → List ℕ → Type 0
+IsCutResponse whole behind early rest requests replies before last =
     (SplitsLast 0 requests replies before last × whole)
-    ⊎ ((before ≡ responses 0 requests replies) × (is_closed requests ≡ false) × ((r : Reply) × IsBad rest r × ((said : Reply) × OrWant r said × (last ≡ response_of said true))) × behind)
+    ⊎ ((is_closed requests ≡ false) × ((IsCutRefusal rest (responses 0 requests replies) before last × behind) ⊎ (IsCutInterim rest (responses 0 requests replies) before last × early)))
 
 -- A session whose write failed: n bytes of the last response were written, and its call has had its effect. A body can't foresee which
 -- write fails, so whichever did, the request that it answers was read to its end by the last read before it.
@@ -77,7 +104,7 @@ pub record CutOff {S : Type 0} (asked : S → Option (List ℕ)) (old new : S) (
   pub answered : answers requests replies
   pub before : List ℕ
   pub last : List ℕ
-  pub cut : IsCutResponse (ReadsBefore asked old new input requests) (ReadsBehind asked old new input requests) rest requests replies before last
+  pub cut : IsCutResponse (ReadsBefore asked old new input requests) (ReadsBehind true asked old new input requests) (ReadsBehind false asked old new input requests) rest requests replies before last
   pub within : n < length last
   pub output : written ≡ before ++ take n last
 

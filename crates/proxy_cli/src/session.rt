@@ -1,19 +1,19 @@
-ghost use Rattle.std.specs.Prelude.{◌≡◌, ◌≤◌, ◌||◌, ℕ, Err, true, false, OnErr};
+ghost use Rattle.std.specs.Prelude.{◌≡◌, ◌≢◌, ◌≤◌, ◌||◌, ℕ, Ok, Err, true, false, IfOk, OnOk, OnErr};
 ghost use Rattle.gate_io.specs.Counts.{Rose};
 ghost use Rattle.http_conn.specs.declared.request.ConnNo.TheVariants.{WriteFault, ReadFault};
 ghost use Rattle.http_conn.specs.Told.{LastRead};
-ghost use Rattle.http_conn.specs.Next.{NeedsMore};
+ghost use Rattle.http_conn.specs.Next.{NeedsMore, StandsSo};
 ghost use Rattle.proxy_cli.specs.Causes.{SinkFailed, SinkGoes};
 ghost use Rattle.proxy_cli.specs.Served.{DeskGoes, Exchanges, ExchangesAll, IsIdle, IsKnown, OrWant};
 ghost use Rattle.proxy_cli.specs.Session.{Serves};
-ghost use Rattle.proxy_cli.specs.Exchange.{Sends, Turns};
+ghost use Rattle.proxy_cli.specs.Exchange.{Finds, Sends, Turns};
 
 use crate::answer::answer;
 use crate::ended::{EndWhy, Ended};
 use broker_link::Link;
 use desk::AloneDesk;
 use gate_io::{Clock, Sink, Source, Want};
-use http_conn::{ConnNo, Connection, Next, Request};
+use http_conn::{ConnNo, Connection, Next, Request, interim_response};
 use rest_codes::{Reply, response_bytes, want_response};
 use rest_routes::Routes;
 use std::alloc::Global;
@@ -69,6 +69,37 @@ fn closes(request: &Request, is_last: bool) -> bool
     request.close || is_last
 }
 
+/// Reads the next request, or why there is none. Where the interim response is due, it is written
+/// before anything behind the head is read.
+fn read_next<S: Source, K: Sink>(
+    alloc: Global,
+    connection: &mut Connection,
+    source: &mut S,
+    sink: &mut K,
+) -> Result<Next, ConnNo>
+    requires over { connection.old.over ≡ false }
+    requires fresh { connection.old.continued ≡ false }
+    ensures found { Finds (LastRead S.left S.asked connection.old.held source.old source.new (NeedsMore false)) connection.old connection.new (S.left source.old) (S.left source.new) (K.held sink.old) (K.held sink.new) result }
+    ensures settled { result ≢ Ok Next.Continue }
+    ensures stands { IfOk result (λ next. StandsSo connection.new (Ok next)) }
+    ensures patient { LastRead S.left S.asked connection.old.held source.old source.new (NeedsMore true) }
+    ensures read { result ≡ Err ReadFault → Rose (S.faults source.old) (S.faults source.new) }
+    ensures write { (n : ℕ) → result ≡ Err (WriteFault n) → SinkFailed K.faults K.stalls sink.old sink.new }
+    ensures counts { (S.faults source.old ≤ S.faults source.new) × SinkGoes K.faults K.stalls sink.old sink.new }
+{
+    match connection.next(alloc, source) {
+        Ok(Next::Continue) => match connection.send(sink, interim_response()) {
+            Ok(()) => connection.next(alloc, source),
+            Err(e) => Err(e),
+        },
+        Ok(Next::Ready(request)) => Ok(Next::Ready(request)),
+        Ok(Next::End) => Ok(Next::End),
+        Ok(Next::CutShort) => Ok(Next::CutShort),
+        Ok(Next::Bad(reply)) => Ok(Next::Bad(reply)),
+        Err(e) => Err(e),
+    }
+}
+
 /// Serves one request. Some where there is no further one, with the reason.
 fn serve_one<S: Source, K: Sink, L: Link + Drop, C: Clock>(
     alloc: Global,
@@ -80,15 +111,17 @@ fn serve_one<S: Source, K: Sink, L: Link + Drop, C: Clock>(
     routes: &Routes,
     close: bool,
 ) -> Result<Option<EndWhy>, ConnNo>
-    requires { connection.old.over ≡ false }
-    ensures turn { IsKnown L.stand desk.old → Turns (Exchanges L.stand C.tells C.hand desk.old clock.old desk.new clock.new) (IsIdle desk.old clock.old desk.new clock.new) connection.old connection.new (S.left source.old) (S.left source.new) (K.held sink.old) (K.held sink.new) close result }
-    ensures patient { LastRead S.left S.asked connection.old.held source.old source.new NeedsMore }
+    requires over { connection.old.over ≡ false }
+    requires fresh { connection.old.continued ≡ false }
+    ensures turn { IsKnown L.stand desk.old → Turns (Exchanges L.stand C.tells C.hand desk.old clock.old desk.new clock.new) (IsIdle desk.old clock.old desk.new clock.new) (LastRead S.left S.asked connection.old.held source.old source.new (NeedsMore false)) connection.old connection.new (S.left source.old) (S.left source.new) (K.held sink.old) (K.held sink.new) close result }
+    ensures fresh { OnOk result (connection.new.continued ≡ false) }
+    ensures patient { LastRead S.left S.asked connection.old.held source.old source.new (NeedsMore true) }
     ensures read { result ≡ Err ReadFault → Rose (S.faults source.old) (S.faults source.new) }
     ensures write { (n : ℕ) → result ≡ Err (WriteFault n) → SinkFailed K.faults K.stalls sink.old sink.new }
     ensures counts { (S.faults source.old ≤ S.faults source.new) × SinkGoes K.faults K.stalls sink.old sink.new }
     ensures goes { DeskGoes L.stand C.tells desk.old clock.old desk.new clock.new }
 {
-    match connection.next(alloc, source) {
+    match read_next(alloc, connection, source, sink) {
         Ok(Next::Ready(request)) => {
             let close = closes(&request, close);
             match exchange(

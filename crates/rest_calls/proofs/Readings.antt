@@ -14,6 +14,7 @@ use Rattle.rest_routes.specs.Place.{Sent, Nowhere, Lacks, At, sent_of}
 use Rattle.rest_routes.specs.declared.place.Place.{Place}
 use Rattle.rest_routes.specs.declared.place.Place.TheVariants.{Brokers, Topics, Topic, Partition, Group, Instance}
 use Rattle.rest_routes.specs.declared.place.TopicAsk.TheVariants.{Produce, Description, Partitions}
+use Rattle.rest_routes.specs.declared.place.PartitionAsk.TheVariants as partition
 use Rattle.rest_routes.specs.declared.place.Ask.TheVariants.{Delete, Assign, Assignments, Records}
 use Rattle.rest_calls.specs.Views.{key_in}
 use Rattle.rest_calls.specs.Reading.{Read, Reading, ReadingAt, ReadingIn, Unless, ProducedAs, CreatedAs, AssignedAs, produce_read, create_read, assign_read}
@@ -25,8 +26,8 @@ one_value body (Some x) None is was = let differs : Some x ≡ None = sym is.1 �
 one_value body None (Some y) is was = let differs : None ≡ Some y = sym (is was.0) ∙ was.1 in cc
 one_value body None None is was = refl
 
-one_produced : (body : List ℕ) (x y : Option (List Given)) → ProducedAs body x → ProducedAs body y → x ≡ y
-one_produced body x y is was = is.2 ∙ ap produced_by (one_value body is.0 was.0 is.1 was.1) ∙ sym was.2
+one_produced : (to : Option ℕ) (body : List ℕ) (x y : Option (List Given)) → ProducedAs to body x → ProducedAs to body y → x ≡ y
+one_produced to body x y is was = is.2 ∙ ap (produced_by to) (one_value body is.0 was.0 is.1 was.1) ∙ sym was.2
 
 one_assigned : (body : List ℕ) (x y : Option (List TopicPart)) → AssignedAs body x → AssignedAs body y → x ≡ y
 one_assigned body x y is was = is.2 ∙ ap assigned_by (one_value body is.0 was.0 is.1 was.1) ∙ sym was.2
@@ -38,10 +39,12 @@ one_created (b ∷ bs) x y is was = is.2 ∙ ap created_by (one_value (b ∷ bs)
 one_at : (place : Place) (request : Request) (a b : Read) → ReadingAt place request a → ReadingAt place request b → a ≡ b
 one_at Brokers request a b x y = x ∙ sym y
 one_at Topics request a b x y = x ∙ sym y
-one_at (Topic topic Produce) request a b x y = x.2 ∙ ap (produce_read topic) (one_produced request.body x.0 y.0 x.1 y.1) ∙ sym y.2
+one_at (Topic topic Produce) request a b x y = x.2 ∙ ap (produce_read topic) (one_produced None request.body x.0 y.0 x.1 y.1) ∙ sym y.2
 one_at (Topic topic Description) request a b x y = x ∙ sym y
 one_at (Topic topic Partitions) request a b x y = x ∙ sym y
-one_at (Partition topic number asked) request a b x y = x ∙ sym y
+one_at (Partition topic number partition.Produce) request a b x y = x.2 ∙ ap (produce_read topic) (one_produced (Some number) request.body x.0 y.0 x.1 y.1) ∙ sym y.2
+one_at (Partition topic number partition.Description) request a b x y = x ∙ sym y
+one_at (Partition topic number partition.EndOffsets) request a b x y = x ∙ sym y
 one_at (Group group) request a b x y = x.2 ∙ ap (create_read group) (one_created request.body x.0 y.0 x.1 y.1) ∙ sym y.2
 one_at (Instance group name Delete) request a b x y = x ∙ sym y
 one_at (Instance group name Assign) request a b x y = x.2 ∙ ap (assign_read (key_in group name)) (one_assigned request.body x.0 y.0 x.1 y.1) ∙ sym y.2

@@ -17,7 +17,6 @@ use Rattle.rest_routes.specs.Place.{Sent, Nowhere, Lacks, At, sent_of}
 use Rattle.rest_routes.specs.declared.place.Place.{Place}
 use Rattle.rest_routes.specs.declared.place.Place.TheVariants.{Brokers, Topics, Topic, Partition, Group, Instance}
 use Rattle.rest_routes.specs.declared.place.TopicAsk.TheVariants as topic
-use Rattle.rest_routes.specs.declared.place.PartitionAsk.{PartitionAsk}
 use Rattle.rest_routes.specs.declared.place.PartitionAsk.TheVariants as partition
 use Rattle.rest_calls.specs.Json.{IsJson}
 use Rattle.rest_calls.specs.Body.{produced_by}
@@ -37,9 +36,9 @@ pub data Read : Type 0 where
 
 -- ---- what bodies read as
 
--- the body has these records, or doesn't read
-abbrev pub ProducedAs : List ℕ → Option (List Given) → Type 0
-ProducedAs body records = (value : Option Data) × IsJson body value × (records ≡ produced_by value)
+-- the body has these records for a partition that the request is sent to, or for none, or doesn't read
+abbrev pub ProducedAs : Option ℕ → List ℕ → Option (List Given) → Type 0
+ProducedAs to body records = (value : Option Data) × IsJson body value × (records ≡ produced_by to value)
 
 -- the body lists these parts, or doesn't read
 abbrev pub AssignedAs : List ℕ → Option (List TopicPart) → Type 0
@@ -76,19 +75,16 @@ abbrev pub records_read : Key → Option Limits → Read
 records_read key (Some limits) = Calls (Of key (AsksRecords [] limits.timeout limits.max_bytes))
 records_read key None = Refuses 422
 
--- what is asked of a partition
-abbrev pub asked_of_part : TopicPart → PartitionAsk → Question
-asked_of_part at partition.Description = OnePart at
-asked_of_part at partition.EndOffsets = Edges at
-
 -- what a request that is sent to a place reads as
 abbrev pub ReadingAt : Place → Request → Read → Type 0
 ReadingAt Brokers request read = read ≡ Calls (Ask AllBrokers)
 ReadingAt Topics request read = read ≡ Calls (Ask AllTopics)
-ReadingAt (Topic name topic.Produce) request read = (records : Option (List Given)) × ProducedAs request.body records × (read ≡ produce_read name records)
+ReadingAt (Topic name topic.Produce) request read = (records : Option (List Given)) × ProducedAs None request.body records × (read ≡ produce_read name records)
 ReadingAt (Topic name topic.Description) request read = read ≡ Calls (Ask (OneTopic name))
 ReadingAt (Topic name topic.Partitions) request read = read ≡ Calls (Ask (Parts name))
-ReadingAt (Partition name number ask) request read = read ≡ Calls (Ask (asked_of_part (record { topic = name; partition = number }) ask))
+ReadingAt (Partition name number partition.Produce) request read = (records : Option (List Given)) × ProducedAs (Some number) request.body records × (read ≡ produce_read name records)
+ReadingAt (Partition name number partition.Description) request read = read ≡ Calls (Ask (OnePart (record { topic = name; partition = number })))
+ReadingAt (Partition name number partition.EndOffsets) request read = read ≡ Calls (Ask (Edges (record { topic = name; partition = number })))
 ReadingAt (Group group) request read = (made : Result (List ℕ × Settings) ℕ) × CreatedAs request.body made × (read ≡ create_read group made)
 ReadingAt (Instance group name Delete) request read = read ≡ Calls (Of (key_in group name) Deletes)
 ReadingAt (Instance group name Assign) request read = (parts : Option (List TopicPart)) × AssignedAs request.body parts × (read ≡ assign_read (key_in group name) parts)

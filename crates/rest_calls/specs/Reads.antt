@@ -7,7 +7,7 @@ use Rattle.broker_link.specs.declared.fetch.TopicPart.{TopicPart}
 use Rattle.model.specs.state.Log.{TopicPart as Part}
 use Rattle.model.specs.state.World.{Settings}
 use Rattle.rest_calls.specs.Reading.{Read, Calls, Refuses}
-use Rattle.rest_calls.specs.Views.{asked_of, name_in, settings_of, HasRecords, HasFewRecords, NamesPartitions}
+use Rattle.rest_calls.specs.Views.{asked_of, name_in, settings_of, HasRecords, HasFewRecords, PartitionsFit}
 use Rattle.rest_calls.specs.declared.call.Call.{Call}
 use Rattle.rest_calls.specs.declared.create.Created.{Created}
 
@@ -49,7 +49,7 @@ created_view made = (name_in made.name, settings_of made.settings)
 
 -- what holds of each call's records
 abbrev pub IsWhole : Call → Type 0
-IsWhole call = HasRecords call × HasFewRecords call × NamesPartitions call
+IsWhole call = HasRecords call × HasFewRecords call × PartitionsFit call
 
 -- the parts in the model's terms
 abbrev pub parts_view : List TopicPart → List Part

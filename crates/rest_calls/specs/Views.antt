@@ -1,5 +1,5 @@
 -- What a call stands for in the sequential model of the gateway (Confluent REST Proxy API v2, produce).
-use Rattle.std.specs.Prelude.{◌≡◌, ◌<◌, ◌^◌, ◌+◌, ◌-◌, min, ℕ, pos, nat_abs, Bool, true, false, cond, codes, decimal, List, [], ◌∷◌, ◌++◌, length, map, All, Option, Some, None, option_map}
+use Rattle.std.specs.Prelude.{◌≡◌, ◌<◌, ◌^◌, ◌+◌, ◌-◌, min, ℕ, ℤ, pos, nat_abs, Bool, true, false, cond, codes, decimal, List, [], ◌∷◌, ◌++◌, length, map, All, Option, Some, None, option_map, IfSome}
 use Rattle.model.specs.state.Entry as model
 use Rattle.model.specs.state.World as world
 use Rattle.model.specs.state.World.Format.{Binary}
@@ -79,14 +79,18 @@ abbrev pub entered : (worker unnamed : ℕ) → model.Call → model.Call
 entered worker unnamed (Of key (Creates settings)) = Of (key_in key.group (cond (is_empty key.instance) (given_name worker (counted unnamed)) key.instance)) (Creates settings)
 entered worker unnamed call = call
 
--- the record names a partition from 0 to 2147483647
-abbrev pub NamesPartition : Row → Type 0
-NamesPartition row = (n : ℕ) × (row.partition ≡ Some (pos n)) × (n < 2 ^ 31)
+-- the number of a partition is from 0 to 2147483647
+abbrev pub IsNumber : ℤ → Type 0
+IsNumber p = (n : ℕ) × (p ≡ pos n) × (n < 2 ^ 31)
 
--- each record of a produce names its partition
-abbrev pub NamesPartitions : Call → Type 0
-NamesPartitions (Produce topic batch) = All NamesPartition batch.rows
-NamesPartitions _ = Unit {0}
+-- so is that of a partition that the record names
+abbrev pub PartitionFits : Row → Type 0
+PartitionFits row = IfSome row.partition IsNumber
+
+-- and each that a record of a produce names
+abbrev pub PartitionsFit : Call → Type 0
+PartitionsFit (Produce topic batch) = All PartitionFits batch.rows
+PartitionsFit _ = Unit {0}
 
 -- a produce has a record
 abbrev pub HasRecords : Call → Type 0

@@ -1,5 +1,5 @@
 ghost use Rattle.std.specs.Prelude.{◌≡◌, ◌⊎◌, IfOk, IfErr};
-ghost use Rattle.rest_calls.specs.Views.{asked_of, HasFewRecords, HasRecords, NamesPartitions};
+ghost use Rattle.rest_calls.specs.Views.{asked_of, HasFewRecords, HasRecords, PartitionsFit};
 ghost use Rattle.rest_calls.specs.Reading.{Read, Reading, Calls, Refusal};
 ghost use Rattle.rest_codes.specs.Errors.{refusal_of};
 ghost use Rattle.rest_codes.specs.declared.response.Reply.TheVariants.{Want as WantReply};
@@ -33,7 +33,7 @@ pub fn call_of(alloc: Global, routes: &Routes, request: &Request) -> Result<Call
     ensures reads { IfOk result (λ call. Reading request.now (Calls (asked_of call))) }
     ensures records { IfOk result HasRecords }
     ensures few { IfOk result HasFewRecords }
-    ensures named { IfOk result NamesPartitions }
+    ensures fit { IfOk result PartitionsFit }
 
     ensures refused { IfErr result (Refusal request.now) }
 {

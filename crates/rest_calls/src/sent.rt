@@ -1,10 +1,9 @@
 ghost use Rattle.std.specs.Prelude.{◌≡◌, IfOk};
-ghost use Rattle.broker_link.specs.Fetching.{at_of};
-ghost use Rattle.rest_calls.specs.Questions.{question_of};
-ghost use Rattle.rest_calls.specs.Reading.{ReadingAt, asked_of_part};
+ghost use Rattle.rest_calls.specs.Reading.{ReadingAt};
 ghost use Rattle.rest_calls.specs.Reads.{GivesCall, IsWhole};
 ghost use Rattle.rest_routes.specs.declared.place.Place.TheVariants as place;
 ghost use Rattle.rest_routes.specs.declared.place.TopicAsk.TheVariants as topic_ask;
+ghost use Rattle.rest_routes.specs.declared.place.PartitionAsk.TheVariants as partition_ask;
 ghost use Rattle.rest_routes.specs.declared.place.Ask.TheVariants as ask;
 
 use crate::assign::read_parts;
@@ -16,14 +15,30 @@ use crate::unread::Unread;
 use broker_link::TopicPart;
 use gate_io::Text;
 use http_conn::Request;
-use rest_routes::{Ask, PartitionAsk, Place, TopicAsk, limits_of};
+use rest_routes::{Ask, PartitionAsk, PartitionNumber, Place, TopicAsk, limits_of};
 use std::alloc::{AllocError, Global};
 
 fn produce(alloc: Global, topic: Text, request: &Request) -> Result<Call, Unread>
     ensures reads { GivesCall result (ReadingAt (place.Topic topic topic_ask.Produce) request.now) }
     ensures whole { IfOk result IsWhole }
 {
-    match read_body(alloc, request.body.as_slice()) {
+    match read_body(alloc, None, request.body.as_slice()) {
+        Ok(batch) => Ok(Call::Produce { topic, batch }),
+        Err(e) => Err(e),
+    }
+}
+
+/// A produce to one partition, which all its records are for.
+fn produce_to(
+    alloc: Global,
+    topic: Text,
+    number: PartitionNumber,
+    request: &Request,
+) -> Result<Call, Unread>
+    ensures reads { GivesCall result (ReadingAt (place.Partition topic number partition_ask.Produce) request.now) }
+    ensures whole { IfOk result IsWhole }
+{
+    match read_body(alloc, Some(number.value()), request.body.as_slice()) {
         Ok(batch) => Ok(Call::Produce { topic, batch }),
         Err(e) => Err(e),
     }
@@ -75,15 +90,6 @@ fn records(alloc: Global, group: Text, instance: Text, request: &Request) -> Res
     }
 }
 
-fn asked_of_part(part: TopicPart, ask: PartitionAsk) -> Question
-    ensures { question_of result ≡ asked_of_part (at_of part) ask }
-{
-    match ask {
-        PartitionAsk::Description => Question::Partition(part),
-        PartitionAsk::EndOffsets => Question::EndOffsets(part),
-    }
-}
-
 /// Reads a request that is sent to a place.
 pub(crate) fn read_at(alloc: Global, place: Place, request: &Request) -> Result<Call, Unread>
     ensures reads { GivesCall result (ReadingAt place request.now) }
@@ -95,9 +101,16 @@ pub(crate) fn read_at(alloc: Global, place: Place, request: &Request) -> Result<
         Place::Topic(topic, TopicAsk::Produce) => produce(alloc, topic, request),
         Place::Topic(topic, TopicAsk::Description) => Ok(Call::Ask(Question::Topic(topic))),
         Place::Topic(topic, TopicAsk::Partitions) => Ok(Call::Ask(Question::Partitions(topic))),
-        Place::Partition(topic, number, ask) => {
+        Place::Partition(topic, number, PartitionAsk::Produce) => {
+            produce_to(alloc, topic, number, request)
+        }
+        Place::Partition(topic, number, PartitionAsk::Description) => {
             let partition = number.value();
-            Ok(Call::Ask(asked_of_part(TopicPart { topic, partition }, ask)))
+            Ok(Call::Ask(Question::Partition(TopicPart { topic, partition })))
+        }
+        Place::Partition(topic, number, PartitionAsk::EndOffsets) => {
+            let partition = number.value();
+            Ok(Call::Ask(Question::EndOffsets(TopicPart { topic, partition })))
         }
         Place::Group(group) => create(alloc, group, request),
         Place::Instance(group, instance, Ask::Delete) => Ok(Call::Delete { group, instance }),

@@ -4,8 +4,9 @@ use Rattle.std.specs.List.{before_first, list_any, slice_split}
 use Rattle.http_head.specs.Member.{is_comma, is_word}
 use Rattle.http_conn.specs.declared.request.Request.{Request}
 use Rattle.rest_routes.specs.declared.place.Place.{Place}
-use Rattle.rest_routes.specs.declared.place.Place.TheVariants.{Topic, Group, Instance}
+use Rattle.rest_routes.specs.declared.place.Place.TheVariants.{Topic, Partition, Group, Instance}
 use Rattle.rest_routes.specs.declared.place.TopicAsk.TheVariants.{Produce}
+use Rattle.rest_routes.specs.declared.place.PartitionAsk.TheVariants as partition
 use Rattle.rest_routes.specs.declared.place.Ask.TheVariants.{Assign, Records}
 
 -- what stands before the parameters
@@ -62,6 +63,7 @@ is_described (b ∷ bs) type = holds_general type
 -- Assign any of the general types, if there is a body. The other places read none.
 abbrev pub is_supported : Place → Request → Bool
 is_supported (Topic topic Produce) request = not request.encoded && holds_binary request.content_type
+is_supported (Partition topic number partition.Produce) request = not request.encoded && holds_binary request.content_type
 is_supported (Group group) request = not request.encoded && is_described request.body request.content_type
 is_supported (Instance group name Assign) request = not request.encoded && is_described request.body request.content_type
 is_supported place request = true

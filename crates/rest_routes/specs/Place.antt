@@ -77,6 +77,7 @@ place_at route.Topics verb.Get names = Some Topics
 place_at route.Topic verb.Post names = Some (Topic names.first topic.Produce)
 place_at route.Topic verb.Get names = Some (Topic names.first topic.Description)
 place_at route.Partitions verb.Get names = Some (Topic names.first topic.Partitions)
+place_at route.Partition verb.Post names = partition_at names.first names.number partition.Produce
 place_at route.Partition verb.Get names = partition_at names.first names.number partition.Description
 place_at route.EndOffsets verb.Get names = partition_at names.first names.number partition.EndOffsets
 place_at route.Group verb.Post names = Some (Group names.first)

@@ -3,7 +3,7 @@ ghost use Rattle.std.specs.List.{before_first, list_any, position, slice_split};
 ghost use Rattle.http_head.specs.Member.{is_comma};
 ghost use Rattle.rest_routes.specs.Media.{accepts, holds_binary, holds_general, is_acceptable, is_accepted, is_binary, is_described, is_general, is_semicolon, is_supported, is_wildcard, names};
 
-use crate::place::{Ask, Place, TopicAsk};
+use crate::place::{Ask, PartitionAsk, Place, TopicAsk};
 use gate_io::Items;
 use http_conn::Request;
 use http_head::{first_member, is_word};
@@ -121,7 +121,7 @@ pub fn is_supported(place: &Place, request: &Request) -> bool
     ensures { result ≡ is_supported place.now request.now }
 {
     match place {
-        Place::Topic(_, TopicAsk::Produce) => {
+        Place::Topic(_, TopicAsk::Produce) | Place::Partition(_, _, PartitionAsk::Produce) => {
             !request.encoded && holds_binary(&request.content_type)
         }
         Place::Group(_) | Place::Instance(_, _, Ask::Assign) => {

@@ -31,7 +31,8 @@ impl PartitionNumber {
     }
 
     pub fn value(&self) -> i32
-        ensures { result ≡ pos self.now }
+        ensures value { result ≡ pos self.now }
+        ensures low { self.now < 2 ^ 31 }
     {
         self.value as i32
     }

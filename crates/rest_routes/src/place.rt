@@ -20,6 +20,7 @@ pub enum TopicAsk {
 /// What is asked of a partition.
 #[derive(Clone, Copy, Debug, PartialEq, Eq)]
 pub enum PartitionAsk {
+    Produce,
     Description,
     EndOffsets,
 }
@@ -170,6 +171,7 @@ fn place_at(route: Route, verb: Verb, names: Names) -> Option<Place>
         (Route::Topic, Verb::Post) => Some(Place::Topic(names.first, TopicAsk::Produce)),
         (Route::Topic, Verb::Get) => Some(Place::Topic(names.first, TopicAsk::Description)),
         (Route::Partitions, Verb::Get) => Some(Place::Topic(names.first, TopicAsk::Partitions)),
+        (Route::Partition, Verb::Post) => partition_at(names, PartitionAsk::Produce),
         (Route::Partition, Verb::Get) => partition_at(names, PartitionAsk::Description),
         (Route::EndOffsets, Verb::Get) => partition_at(names, PartitionAsk::EndOffsets),
         (Route::Group, Verb::Post) => Some(Place::Group(names.first)),

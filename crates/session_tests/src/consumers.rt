@@ -86,7 +86,7 @@ const PRODUCES: [Exchange<'static>; 9] = [
     },
     Exchange {
         line: PRODUCE,
-        body: "{\"records\":[{\"value\":\"S2Fma2E=\"}]}",
+        body: "{\"records\":[{\"value\":\"S2Fma2E=\",\"partition\":\"0\"}]}",
         status: "422 Unprocessable Entity",
         media: PLAIN,
         told: "{\"error_code\":422,\"message\":\"Body does not read.\"}",
@@ -111,6 +111,38 @@ const PRODUCES: [Exchange<'static>; 9] = [
         status: OK,
         media: PLAIN,
         told: "{\"offsets\":[{\"partition\":1,\"offset\":0,\"error_code\":null,\"error\":null},{\"partition\":0,\"offset\":1,\"error_code\":null,\"error\":null},{\"partition\":1,\"offset\":1,\"error_code\":null,\"error\":null}],\"key_schema_id\":null,\"value_schema_id\":null}",
+    },
+];
+
+/// Kafka's clients place the key `abc` by its hash 479470107, which is odd.
+const CHOSEN: [Exchange<'static>; 4] = [
+    Exchange {
+        line: PRODUCE,
+        body: "{\"records\":[{\"value\":\"S2Fma2E=\"},{\"key\":\"YWJj\"},{\"value\":\"bm8=\"},{\"partition\":1},{}]}",
+        status: OK,
+        media: PLAIN,
+        told: "{\"offsets\":[{\"partition\":0,\"offset\":0,\"error_code\":null,\"error\":null},{\"partition\":1,\"offset\":0,\"error_code\":null,\"error\":null},{\"partition\":0,\"offset\":1,\"error_code\":null,\"error\":null},{\"partition\":1,\"offset\":1,\"error_code\":null,\"error\":null},{\"partition\":0,\"offset\":2,\"error_code\":null,\"error\":null}],\"key_schema_id\":null,\"value_schema_id\":null}",
+    },
+    Exchange {
+        line: PRODUCE,
+        body: "{\"records\":[{\"value\":\"S2Fma2E=\"},{\"partition\":2}]}",
+        status: "404 Not Found",
+        media: PLAIN,
+        told: "{\"error_code\":40402,\"message\":\"Partition not found.\"}",
+    },
+    Exchange {
+        line: "POST /topics/orders/partitions/1",
+        body: "{\"records\":[{\"value\":\"S2Fma2E=\",\"partition\":0}]}",
+        status: OK,
+        media: PLAIN,
+        told: "{\"offsets\":[{\"partition\":1,\"offset\":2,\"error_code\":null,\"error\":null}],\"key_schema_id\":null,\"value_schema_id\":null}",
+    },
+    Exchange {
+        line: "POST /topics/orders/partitions/2",
+        body: "{\"records\":[{\"value\":\"S2Fma2E=\",\"partition\":0}]}",
+        status: "404 Not Found",
+        media: PLAIN,
+        told: "{\"error_code\":40402,\"message\":\"Partition not found.\"}",
     },
 ];
 
@@ -494,6 +526,11 @@ fn is_session(
 #[test]
 fn a_refused_produce_stores_nothing(rt: HostRuntime) -> Result<(), Fail> {
     is_session(&rt, rt.alloc(), &PRODUCES, "0 at 0\n")
+}
+
+#[test]
+fn partitions_are_chosen_by_key_or_by_place(rt: HostRuntime) -> Result<(), Fail> {
+    is_session(&rt, rt.alloc(), &CHOSEN, "0 at 0\n")
 }
 
 #[test]

@@ -150,6 +150,12 @@ const FIRST: &str =
 const SECOND: &str =
     "HTTP/1.1 200 OK\r\nContent-Type: application/vnd.kafka.v2+json\r\nContent-Length: 115\r\n\r\n{\"offsets\":[{\"partition\":0,\"offset\":1,\"error_code\":null,\"error\":null}],\"key_schema_id\":null,\"value_schema_id\":null}";
 
+/// The first produce, whose client may wait before it sends the body of 48 bytes.
+const WAITING: &str =
+    "POST /topics/orders HTTP/1.1\r\nHost: p\r\nContent-Type: application/vnd.kafka.binary.v2+json\r\nContent-Length: 48\r\nExpect: 100-continue\r\n\r\n{\"records\":[{\"value\":\"S2Fma2E=\",\"partition\":0}]}";
+
+const INTERIM: &str = "HTTP/1.1 100 Continue\r\n\r\n";
+
 const ELSEWHERE: &str = "GET / HTTP/1.1\nHost:p\n\n";
 
 const NOT_FOUND: &str =
@@ -168,7 +174,7 @@ const BAD_REQUEST: &str =
 /// What is sent, all but so many of its last bytes, and what is answered.
 type Cut<'a> = (&'a str, &'a [&'a str], usize, &'a [&'a str]);
 
-const CUTS: [Cut<'static>; 9] = [
+const CUTS: [Cut<'static>; 13] = [
     ("nothing", &[], 0, &[]),
     ("a byte is left out", &[ONE], 1, &[]),
     ("all but a byte of the body is left out", &[ONE], 47, &[]),
@@ -178,6 +184,15 @@ const CUTS: [Cut<'static>; 9] = [
     ("one request", &[ONE], 0, &[FIRST]),
     ("the second lacks a byte", &[ONE, ONE], 1, &[FIRST]),
     ("two requests", &[ONE, ONE], 0, &[FIRST, SECOND]),
+    ("an expectation", &[WAITING], 0, &[INTERIM, FIRST]),
+    ("its body is left out", &[WAITING], 48, &[INTERIM]),
+    ("its head is cut", &[WAITING], 49, &[]),
+    (
+        "two of them",
+        &[WAITING, WAITING],
+        1,
+        &[INTERIM, FIRST, INTERIM],
+    ),
 ];
 
 fn cuts_end_so(rt: &impl Abort, alloc: Global, cases: &[Cut<'_>]) -> Result<(), Fail> {
@@ -247,16 +262,63 @@ fn a_failed_read_or_write_ends_behind_what_was_written(rt: HostRuntime) -> Resul
     faults_end_so(&rt, rt.alloc(), &FAULTS)
 }
 
-const UNREAD: [(&str, &[&str]); 5] = [
-    ("no words", &[]),
-    ("another command", &["serve"]),
-    ("no topic", &["session"]),
-    ("no partitions", &["session", "orders"]),
-    ("no partition", &["session", "orders:0"]),
+/// Words, the requests that follow them, and what is answered.
+type Asked<'a> = (&'a str, &'a [&'a str], &'a [&'a str], &'a [&'a str]);
+
+const UNREAD: [Asked<'static>; 10] = [
+    ("no words", &[], &[ONE], &[]),
+    ("no topic", &["session"], &[ONE], &[]),
+    ("no partitions", &["session", "orders"], &[ONE], &[]),
+    ("no partition", &["session", "orders:0"], &[ONE], &[]),
+    ("twice", &["session", "orders:1", "orders:2"], &[ONE], &[]),
+    (
+        "two names",
+        &["session", "--advertise", "a", "--advertise", "b", "o:1"],
+        &[ONE],
+        &[],
+    ),
+    (
+        "a file of schemas",
+        &["session", "--schemas", "f", "orders:2"],
+        &[ONE],
+        &[],
+    ),
+    ("a server", &["serve", "--broker", "h:1"], &[ONE], &[]),
+    ("a broker", &["broker", "orders:2"], &[ONE], &[]),
+    ("a flood", &["flood", "0", "1"], &[ONE], &[]),
 ];
 
-fn are_not_read(rt: &impl Abort, alloc: Global, cases: &[(&str, &[&str])]) -> Result<(), Fail> {
-    for (name, words) in cases {
+const CREATE: &str =
+    "POST /consumers/g HTTP/1.1\r\nHost: p\r\nContent-Type: application/vnd.kafka.v2+json\r\nContent-Length: 13\r\n\r\n{\"name\":\"c1\"}";
+
+/// The instance has the name that the words give.
+const CREATED: &str =
+    "HTTP/1.1 200 OK\r\nContent-Type: application/vnd.kafka.v2+json\r\nContent-Length: 69\r\n\r\n{\"instance_id\":\"c1\",\"base_uri\":\"http://h:1/consumers/g/instances/c1\"}";
+
+const READ: [Asked<'static>; 3] = [
+    (
+        "a name before the topic",
+        &["session", "--advertise=h:1", "orders:2"],
+        &[CREATE],
+        &[CREATED],
+    ),
+    (
+        "a name behind the topic",
+        &["session", "orders:2", "--advertise", "h:1"],
+        &[CREATE],
+        &[CREATED],
+    ),
+    ("no options", &["session", "--", "orders:2"], &[], &[]),
+];
+
+/// Each of these ends so.
+fn words_end_so(
+    rt: &impl Abort,
+    alloc: Global,
+    ending: &str,
+    cases: &[Asked<'_>],
+) -> Result<(), Fail> {
+    for (name, words, requests, responses) in cases {
         let streams = Streams {
             words,
             read_piece: 1_000_000,
@@ -267,11 +329,11 @@ fn are_not_read(rt: &impl Abort, alloc: Global, cases: &[(&str, &[&str])]) -> Re
         let row = Row {
             name,
             streams,
-            requests: &[ONE],
+            requests,
             left: 0,
-            ending: "2 at 0\nusage: restgate session [--advertise HOST:PORT] TOPIC:PARTS [TOPIC:PARTS ..]\n",
-            responses: &[],
-            written: 0,
+            ending,
+            responses,
+            written: 1_000_000,
         };
         ends_so(rt, alloc, &row)?;
     }
@@ -280,7 +342,14 @@ fn are_not_read(rt: &impl Abort, alloc: Global, cases: &[(&str, &[&str])]) -> Re
 
 #[test]
 fn words_that_ask_for_no_session_are_status_2(rt: HostRuntime) -> Result<(), Fail> {
-    are_not_read(&rt, rt.alloc(), &UNREAD)
+    let usage =
+        "2 at 0\nusage: restgate session [--advertise HOST:PORT] TOPIC:PARTS [TOPIC:PARTS ..]\n";
+    words_end_so(&rt, rt.alloc(), usage, &UNREAD)
+}
+
+#[test]
+fn words_of_a_session_give_its_name_and_topics(rt: HostRuntime) -> Result<(), Fail> {
+    words_end_so(&rt, rt.alloc(), "0 at 0\n", &READ)
 }
 
 /// The size of the pieces, the last request and what it is answered.

@@ -39,7 +39,7 @@ fn told(alloc: Global, line: &str) -> Result<String, AllocError> {
 }
 
 /// Lines, and the session that each asks for.
-const SESSIONS: [(&str, &str); 17] = [
+const SESSIONS: [(&str, &str); 19] = [
     ("session orders:2", "localhost:8082 orders=2"),
     ("session b:1 a:64 c:9", "localhost:8082 b=1 a=64 c=9"),
     ("session a:0000000064", "localhost:8082 a=64"),
@@ -55,6 +55,8 @@ const SESSIONS: [(&str, &str); 17] = [
     ("session a:1 --advertise=h=2 b:1", "h=2 a=1 b=1"),
     ("session -- orders:2", "localhost:8082 orders=2"),
     ("session a:1 -- b:1", "localhost:8082 a=1 b=1"),
+    ("session a:1 --", "localhost:8082 a=1"),
+    ("session a:1 A:1", "localhost:8082 a=1 A=1"),
     ("session --advertise x -- a:1", "x a=1"),
     ("session --advertise=- o:1", "- o=1"),
     ("session --advertise=-x o:1", "-x o=1"),
@@ -63,7 +65,7 @@ const SESSIONS: [(&str, &str); 17] = [
 ];
 
 /// Lines that ask for no command.
-const OTHERS: [&str; 53] = [
+const OTHERS: [&str; 54] = [
     "",
     "session",
     "Session orders:2",
@@ -72,9 +74,7 @@ const OTHERS: [&str; 53] = [
     "help",
     "--help",
     "-h",
-    "flood 1 1",
-    "serve --broker h:1",
-    "broker o:1",
+    "--advertise=h:1 session o:1",
     "session orders",
     "session orders:",
     "session :2",
@@ -113,10 +113,39 @@ const OTHERS: [&str; 53] = [
     "session --adv=x o:1",
     "session --advertise -- o:1",
     "session --advertise --schemas o:1",
-    "session --schemas f o:1",
-    "session --port 1 o:1",
+    "session --advertise  o:1",
+    "session --advertise=a o:1 --advertise b",
+    "session o:1 -",
     "session -a o:1",
     "session --help",
+    "session o:1 -h",
+    "session help",
+];
+
+/// Lines of commands that aren't built, and options of theirs in a session.
+const LATER: [&str; 22] = [
+    "session --schemas f o:1",
+    "session --schemas=f o:1",
+    "session o:1 --schemas f",
+    "session --broker h:1 o:1",
+    "session --port 1 o:1",
+    "session --workers=1 o:1",
+    "session --connections 1 o:1",
+    "serve",
+    "serve --broker h:1",
+    "serve --broker=h:1 --port 8082 --workers 4 --connections 1 --schemas f --advertise h:1",
+    "serve o:1",
+    "broker",
+    "broker o:1",
+    "broker --port 9092 --connections=1 a:1 b:1",
+    "broker -- o:1",
+    "flood",
+    "flood 1 1",
+    "flood 0 1",
+    "flood 100000 4294967295",
+    "send --broker h:1 o",
+    "registry --schemas f --port 1 --connections 1",
+    "mirror --from a:1 --to b:1 --store f o",
 ];
 
 /// Each line reads as this.
@@ -162,6 +191,11 @@ fn reads_the_topics_and_the_name_of_a_session(rt: HostRuntime) -> Result<(), Fai
 #[test]
 fn shows_the_usage_for_other_words(rt: HostRuntime) -> Result<(), Fail> {
     show_usage(&rt, rt.alloc(), &OTHERS)
+}
+
+#[test]
+fn shows_the_usage_for_commands_that_are_not_built(rt: HostRuntime) -> Result<(), Fail> {
+    show_usage(&rt, rt.alloc(), &LATER)
 }
 
 #[test]

@@ -1,4 +1,4 @@
-use Rattle.std.proofs.Common.{◌<◌, subst, List, ℕ, length, arith, refl, inl, inr}
+use Rattle.std.proofs.Common.{◌<◌, false, subst, List, ℕ, length, arith, refl, inl, inr}
 use Rattle.http_conn.specs.Front.{FrontIs}
 use Rattle.httparse.specs.Grammar.{HasNoRequest, MayBecomeRequest}
 use Rattle.http_head.specs.Head.{max_head}
@@ -37,7 +37,7 @@ returns-in-Err-clause-prompt g c = λ r rest is.
 pub loop-held-init : goal.loop-held-init
 loop-held-init g c = record {
   same = λ all is. is;
-  patient = never_read g.S.Source.left g.S.Source.asked c.args.held.now c.args.source.now c.args.source.now NeedsMore refl;
+  patient = never_read g.S.Source.left g.S.Source.asked c.args.held.now c.args.source.now c.args.source.now (NeedsMore false) refl;
   prompt = inr (refl, refl);
   faults = omega arith;
   beside = g.met.S.Source.beside_same c.args.source.now;

@@ -6,6 +6,7 @@ use Rattle.http_head.specs.Asked.{asked_in, is_served}
 use Rattle.http_head.specs.Fields.{values_of, joined, is_encoding, asks_close}
 use Rattle.http_head.specs.Head.{fields_of}
 use Rattle.http_head.proofs.FieldLemmas.{framed_target}
+use Rattle.http_head.proofs.HeadLemmas.{head_of}
 use Rattle.http_conn.specs.Stream.{is_mark}
 use Rattle.http_conn.proofs.StreamLemmas.{asks_same}
 use Rattle.http_conn.proofs.whole.make_request.Goals as goal
@@ -32,4 +33,5 @@ returns c = λ tree after at.
       content_type = c.in_ok-content_type.ensures ∙ ap (λ (fs : List (List ℕ × List ℕ)). joined (values_of (codes "content-type") fs)) fields;
       encoded = c.is_encoded.ensures ∙ ap (λ (fs : List (List ℕ × List ℕ)). list_any is_encoding (values_of (codes "content-encoding") fs)) fields;
       close = c.asks_close.ensures ∙ ap (λ (n : ℕ). asks_close n (map (header_bytes held) (take c.args.head.spans.headers headers))) is.at.version ∙ ap (asks_close is.head.minor) fields;
+      expects = c.awaits_interim.ensures is.head (drop c.args.head.spans.len held) (head_of held headers c.args.head is);
     })

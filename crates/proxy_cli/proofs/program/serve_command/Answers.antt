@@ -10,7 +10,7 @@ use Rattle.proxy_cli.specs.Served.{Answering, Gateway}
 use Rattle.proxy_cli.specs.Session.{first_gateway}
 use Rattle.command_words.specs.Words.{advertise_of, plans_of}
 use Rattle.proxy_cli.proofs.Answered.{answering_none, session_answers}
-use Rattle.proxy_cli.proofs.Progress.{progress_start, progress_starved}
+use Rattle.proxy_cli.proofs.Progress.{starved_first}
 use Rattle.proxy_cli.proofs.Sessions.{serves_so}
 use Rattle.proxy_cli.proofs.program.serve_command.Goals as goal
 
@@ -20,9 +20,8 @@ returns-in-Err-clause-serves g c =
       first,
       refl,
       λ input told.
-          progress_starved g.S.Source.left g.S.Source.asked c.args.src.now c.args.src.now _ input _ _ _ _
-          (progress_start g.S.Source.left g.S.Source.asked c.args.src.now (Answering no_expiry 0 ⊤ (g.C.Clock.tells c.args.clock.now) (advertise_of c.args.command.now) first first) input (g.K.Sink.held c.args.sink.now)
-          (answering_none no_expiry 0 ⊤ (g.C.Clock.tells c.args.clock.now) (advertise_of c.args.command.now) first) told),
+          starved_first g.S.Source.left g.S.Source.asked c.args.src.now (Answering no_expiry 0 ⊤ (g.C.Clock.tells c.args.clock.now) (advertise_of c.args.command.now) first first) input (g.K.Sink.held c.args.sink.now)
+          (answering_none no_expiry 0 ⊤ (g.C.Clock.tells c.args.clock.now) (advertise_of c.args.command.now) first) told,
     )
 
 pub returns-in-Err-from_str-clause-serves : goal.returns-in-Err-from_str-clause-serves
@@ -31,9 +30,8 @@ returns-in-Err-from_str-clause-serves g c =
       first,
       refl,
       λ input told.
-          progress_starved g.S.Source.left g.S.Source.asked c.args.src.now c.args.src.now _ input _ _ _ _
-          (progress_start g.S.Source.left g.S.Source.asked c.args.src.now (Answering no_expiry 0 ⊤ (g.C.Clock.tells c.args.clock.now) (advertise_of c.args.command.now) first first) input (g.K.Sink.held c.args.sink.now)
-          (answering_none no_expiry 0 ⊤ (g.C.Clock.tells c.args.clock.now) (advertise_of c.args.command.now) first) told),
+          starved_first g.S.Source.left g.S.Source.asked c.args.src.now (Answering no_expiry 0 ⊤ (g.C.Clock.tells c.args.clock.now) (advertise_of c.args.command.now) first first) input (g.K.Sink.held c.args.sink.now)
+          (answering_none no_expiry 0 ⊤ (g.C.Clock.tells c.args.clock.now) (advertise_of c.args.command.now) first) told,
     )
 
 pub returns-clause-serves : goal.returns-clause-serves

@@ -1,30 +1,27 @@
-use Rattle.std.proofs.Common.{◌≡◌, ◌∙◌, ◌+◌, refl, ap, sym, subst, arith, Ok, Err, Option}
-use Rattle.std.specs.Prelude.{◌==◌, ◌<◌}
+use Rattle.std.proofs.Common.{◌∙◌, ◌+◌, refl, ap, sym, subst, arith}
+use Rattle.std.specs.Prelude.{◌==◌}
 use Rattle.broker_link.proofs.Going.{goes_nowhere, goes_on}
-use Rattle.http_conn.specs.declared.request.ConnNo.{ConnNo}
 use Rattle.http_conn.specs.Stream.{max_requests}
 use Rattle.http_conn.specs.Told.{Conn}
-use Rattle.proxy_cli.specs.declared.ended.EndWhy.{EndWhy}
 use Rattle.proxy_cli.specs.Served.{Exchanges, ExchangesAll}
 use Rattle.proxy_cli.proofs.Answered.{exchanges_none, exchanges_more, exchanges_same}
-use Rattle.proxy_cli.proofs.Progress.{Progress, progress_start, progress_more, progress_end, progress_limit, progress_closed, progress_starved, same_held}
+use Rattle.proxy_cli.proofs.Progress.{Progress, progress_start, progress_more, progress_end, progress_limit, progress_closed, same_held, starved_first}
 use Rattle.proxy_cli.proofs.Serving.{serves_failed}
 use Rattle.proxy_cli.proofs.session.serve_stream.Goals as goal
 
 pub returns-in-Err-clause-serves : goal.returns-in-Err-clause-serves
 returns-in-Err-clause-serves g c = λ known input told.
-    progress_starved g.S.Source.left g.S.Source.asked c.args.source.now c.args.source.now _ input _ _ _ _
-    (progress_start g.S.Source.left g.S.Source.asked c.args.source.now (ExchangesAll g.L.Link.stand g.C.Clock.tells g.C.Clock.hand c.args.desk.now c.args.clock.now c.args.desk.now c.args.clock.now) input (g.K.Sink.held c.args.sink.now)
-    (exchanges_none g.L.Link.stand g.C.Clock.tells g.C.Clock.hand c.args.desk.now c.args.clock.now) told)
+    starved_first g.S.Source.left g.S.Source.asked c.args.source.now (ExchangesAll g.L.Link.stand g.C.Clock.tells g.C.Clock.hand c.args.desk.now c.args.clock.now c.args.desk.now c.args.clock.now) input (g.K.Sink.held c.args.sink.now)
+    (exchanges_none g.L.Link.stand g.C.Clock.tells g.C.Clock.hand c.args.desk.now c.args.clock.now) told
 
 pub returns-in-Err-new-clause-serves : goal.returns-in-Err-new-clause-serves
 returns-in-Err-new-clause-serves g c = λ known input told.
-    progress_starved g.S.Source.left g.S.Source.asked c.args.source.now c.args.source.now _ input _ _ _ _
-    (progress_start g.S.Source.left g.S.Source.asked c.args.source.now (ExchangesAll g.L.Link.stand g.C.Clock.tells g.C.Clock.hand c.args.desk.now c.args.clock.now c.args.desk.now c.args.clock.now) input (g.K.Sink.held c.args.sink.now)
-    (exchanges_none g.L.Link.stand g.C.Clock.tells g.C.Clock.hand c.args.desk.now c.args.clock.now) told)
+    starved_first g.S.Source.left g.S.Source.asked c.args.source.now (ExchangesAll g.L.Link.stand g.C.Clock.tells g.C.Clock.hand c.args.desk.now c.args.clock.now c.args.desk.now c.args.clock.now) input (g.K.Sink.held c.args.sink.now)
+    (exchanges_none g.L.Link.stand g.C.Clock.tells g.C.Clock.hand c.args.desk.now c.args.clock.now) told
 
 pub loop-count-init : goal.loop-count-init
 loop-count-init g c = record {
+  fresh = ap (λ (k : Conn). k.continued) c.in-Ok.ensures;
   goes = (refl, goes_nowhere (g.L.Link.stand c.args.desk.now.shard.link), λ ticks. ticks);
   progress = λ known input told.
       let none = ExchangesAll g.L.Link.stand g.C.Clock.tells g.C.Clock.hand c.args.desk.now c.args.clock.now c.args.desk.now c.args.clock.now in
@@ -38,6 +35,7 @@ loop-count-preserved g c =
     let before = c.loop-count.invariant in
     let said = c.in-Ok-None.ensures in
     record {
+      fresh = said.fresh;
       goes = (
         said.goes.0 ∙ before.goes.0,
         goes_on (g.L.Link.stand c.args.desk.now.shard.link) (g.L.Link.stand c.loop-count.desk.shard.link) (g.L.Link.stand c.serve_one.new.desk.shard.link) before.goes.1 said.goes.1,

@@ -1,15 +1,15 @@
 use Rattle.std.proofs.Common.{◌∙◌, ◌≡◌, ap, sym, subst, inl}
 use Rattle.model.specs.state.Entry.{Call as Asked}
 use Rattle.rest_calls.specs.Responses.{response_in}
-use Rattle.rest_calls.specs.Views.{asked_of, entered, NamesPartitions}
+use Rattle.rest_calls.specs.Views.{asked_of, entered, PartitionsFit}
 use Rattle.desk.specs.Step.{no_expiry}
 use Rattle.desk.specs.Runs.{IsAnswered, state_of}
 use Rattle.desk.proofs.NamingLemmas.{named_still, whose_is}
 use Rattle.desk.proofs.alone_desk.AloneDesk.answer.Goals as goal
 
-pub produce-requires-clause-named : goal.produce-requires-clause-named
-produce-requires-clause-named g c =
-    subst NamesPartitions (sym c.see-call.ensures.call ∙ c.in-Produce.is) (named_still c.args.call c.in-Ok.call c.args.self.now.names_given c.in-Ok.ensures.entered c.in-Ok.ensures.same c.requires.named)
+pub produce-requires-clause-fit : goal.produce-requires-clause-fit
+produce-requires-clause-fit g c =
+    subst PartitionsFit (sym c.see-call.ensures.call ∙ c.in-Produce.is) (named_still c.args.call c.in-Ok.call c.args.self.now.names_given c.in-Ok.ensures.entered c.in-Ok.ensures.same c.requires.fit)
 
 pub look_until_answered-requires : goal.look_until_answered-requires
 look_until_answered-requires g c = record { whose = whose_is c.see-call.result.call c.in_default.not-Produce c.in_default.not-Ask }
