@@ -1,5 +1,5 @@
 //! The work of `restgate session orders:2` for produces, in Rust: reads heads, JSON and base64, stores the records, and writes each
-//! response by one write. `rustc -O` builds it, and `.ci/session_speed` runs both.
+//! response by one write; the 100,000th closes. `rustc -O` builds it, and `.ci/session_speed` runs both.
 
 use std::collections::HashMap;
 use std::fs::File;
@@ -233,6 +233,7 @@ fn main() {
     let mut held: Vec<u8> = Vec::new();
     let mut piece = vec![0; 65_536];
     let mut start = 0;
+    let mut requests = 0;
     loop {
         let whole = head_of(&held[start..]).filter(|(end, length, _)| start + end + length <= held.len());
         let Some((end, length, topic)) = whole else {
@@ -248,7 +249,9 @@ fn main() {
         let body = &held[start + end..start + end + length];
         let text = produce(&mut topics, &topic, body).expect("a produce");
         let mut response = Vec::with_capacity(text.len() + 96);
-        write!(response, "HTTP/1.1 200 OK\r\nContent-Type: application/vnd.kafka.v2+json\r\nContent-Length: {}\r\n\r\n", text.len()).expect("memory");
+        requests += 1;
+        let close = if requests == 100_000 { "Connection: close\r\n" } else { "" };
+        write!(response, "HTTP/1.1 200 OK\r\nContent-Type: application/vnd.kafka.v2+json\r\nContent-Length: {}\r\n{close}\r\n", text.len()).expect("memory");
         response.extend_from_slice(text.as_bytes());
         sink.write_all(&response).expect("a write");
         start += end + length;
