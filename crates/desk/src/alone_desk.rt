@@ -179,7 +179,8 @@ impl<L: Link + Drop> AloneDesk<L> {
     }
 
     /// Answers a call: by the reply of its last entry, or, where memory was wanting before its first
-    /// turn, by that. A produce has a record, fewer than 2^63, and each names its partition.
+    /// turn, by that. A produce has a record, fewer than 2^63, and a partition that one names is from 0
+    /// to 2147483647.
     pub fn answer<C: Clock>(&mut self, alloc: Global, clock: &mut C, call: Call) -> Reply
         requires some { HasRecords call }
         requires few { HasFewRecords call }

@@ -225,7 +225,7 @@ impl<L: Link + Drop> Shard<L> {
     }
 
     /// Stores the records of a produce for a caller: one step. There are some, fewer than 2^63, and
-    /// each names its partition. `asked` is the call that they are of.
+    /// a partition that one names is from 0 to 2147483647. `asked` is the call that they are of.
     pub fn produce(
         &mut self,
         alloc: Global,

@@ -1,6 +1,6 @@
 -- From the metadata's log and what the link answered to the ends of a produce, and to what a plain link answers.
 use Rattle.std.proofs.Common.{◌≡◌, ℕ, ◌+◌, ◌<◌, ◌≤◌, Bool, true, false, nat_lt, List, [], ◌∷◌, length, map, refl, ap, sym, subst, ◌∙◌, inl, inr, arith, Result, Ok, Err, Some, None}
-use Rattle.std.specs.Prelude.{◌≢◌, ℤ, All}
+use Rattle.std.specs.Prelude.{◌≢◌, ◌⊎◌, ℤ, All}
 use Rattle.std.specs.List.{list_any}
 use Rattle.std.proofs.lemmas.List.Elements.{All-cons, All-nil, All-head, All-tail, All-weaker}
 use Rattle.std.proofs.lemmas.Bool.Decides.{nat_tests}
@@ -144,6 +144,15 @@ told_apart told is = cc is
 
 pub failed_apart : (r : Result (List Told) ProduceNo) (e : ProduceNo) → r ≡ Err e → e ≢ LinkFailed Want → r ≢ Err (LinkFailed Want)
 failed_apart r e was apart is = apart (cc (was, is))
+
+-- what isn't answered so names no topic or partition
+pub told_refuses : (told : List Told) → (◌≡◌ {A = Result (List Told) ProduceNo} (Ok told) (Err NoTopic)) ⊎ (◌≡◌ {A = Result (List Told) ProduceNo} (Ok told) (Err NoPartition)) → ⊥
+told_refuses told (inl is) = absurd (cc is)
+told_refuses told (inr is) = absurd (cc is)
+
+pub failed_refuses : (e : ProduceNo) → (e ≢ NoTopic) × (e ≢ NoPartition) → (◌≡◌ {A = Result (List Told) ProduceNo} (Err e) (Err NoTopic)) ⊎ (◌≡◌ {A = Result (List Told) ProduceNo} (Err e) (Err NoPartition)) → ⊥
+failed_refuses e never (inl is) = never.0 (cc is)
+failed_refuses e never (inr is) = never.1 (cc is)
 
 pub no_topic_apart : NoTopic ≢ LinkFailed Want
 no_topic_apart is = cc is

@@ -1,11 +1,11 @@
-ghost use Rattle.std.specs.Prelude.{◌≡◌, ◌<◌, ◌≤◌, ◌≢◌, ◌^◌, ℕ, List, All, length, Err, Result, IfSome};
+ghost use Rattle.std.specs.Prelude.{◌≡◌, ◌⊎◌, ◌<◌, ◌≤◌, ◌≢◌, ◌^◌, ℕ, List, All, length, Err, None, Result, IfSome};
 ghost use Rattle.model.specs.step.Fixed.{SameCommits};
 ghost use Rattle.broker_link.specs.declared.link.LinkNo.TheVariants.{Want as LinkWant};
 ghost use Rattle.broker_link.specs.Replies.{IsCounted, link_reply};
 ghost use Rattle.broker_link.specs.Stands.{Goes, IsOnceAtMost};
 ghost use Rattle.rest_calls.specs.Views.{PartitionFits};
 ghost use Rattle.rest_replies.specs.Answer.{refusal_reply, reply_of};
-ghost use Rattle.rest_replies.specs.declared.answer.ProduceNo.TheVariants.{Link as LinkFailed};
+ghost use Rattle.rest_replies.specs.declared.answer.ProduceNo.TheVariants.{NoPartition, NoTopic, Link as LinkFailed};
 ghost use Rattle.producer.specs.Request.{EndsTold, IsGoodPlainly};
 
 use crate::parts::are_within;
@@ -19,6 +19,7 @@ use std::alloc::Global;
 fn failed(e: LinkNo) -> ProduceNo
     ensures reply { refusal_reply result ≡ link_reply e }
     ensures apart { result ≢ LinkFailed LinkWant }
+    ensures links { (result ≢ NoTopic) × (result ≢ NoPartition) }
 {
     match e {
         LinkNo::Want => ProduceNo::Want,
@@ -30,6 +31,7 @@ fn failed(e: LinkNo) -> ProduceNo
 fn as_number(count: usize) -> Option<u32>
     ensures some { IfSome result (λ n. n ≡ count) }
     ensures few { IfSome result (λ n. n ≤ 2 ^ 31) }
+    ensures many { result ≡ None → 2 ^ 31 < count }
 {
     if count <= 1 << 31 {
         Some(count as u32)
@@ -56,6 +58,8 @@ pub fn produce<L: Link>(
 
     ensures goes { Goes (L.stand link.old) (L.stand link.new) }
     ensures asked { IsOnceAtMost now (L.stand link.old).produces (L.stand link.new).produces }
+    ensures unsent { (result ≡ Err NoTopic) ⊎ (result ≡ Err NoPartition)
+        → (L.stand link.new).produces ≡ (L.stand link.old).produces }
     ensures commits { (L.stand link.old).tells → SameCommits (L.stand link.old).log (L.stand link.new).log }
 
     ensures counts { IsCounted (L.stand link.old).counts (L.stand link.new).counts (reply_of result) }

@@ -7,7 +7,7 @@ use Rattle.broker_link.proofs.CountedLemmas.{comes_on, counted_done, counted_fai
 use Rattle.broker_link.proofs.Going.{goes_on, once_behind, same_commits_on}
 use Rattle.rest_replies.specs.Answer.{refusal_reply}
 use Rattle.rest_replies.specs.declared.answer.ProduceNo.TheVariants.{NoPartition, NoTopic}
-use Rattle.producer.proofs.Ends.{all_stored, counted_told, ends_answered, ends_failed, ends_unasked, ends_unknown_partition, ends_unknown_topic, failed_apart, no_partition_apart, no_topic_apart, some_parts, told_apart, within_is, within_number}
+use Rattle.producer.proofs.Ends.{all_stored, counted_told, ends_answered, ends_failed, ends_unasked, ends_unknown_partition, ends_unknown_topic, failed_apart, failed_refuses, no_partition_apart, no_topic_apart, some_parts, told_apart, told_refuses, within_is, within_number}
 use Rattle.producer.proofs.request.produce.Goals as goal
 
 pub returns-in-Ok-None : goal.returns-in-Ok-None
@@ -20,6 +20,7 @@ returns-in-Ok-None g c =
       apart = failed_apart _ NoTopic refl no_topic_apart;
       goes = read.goes;
       asked = inl read.asked;
+      unsent = λ refused. read.asked;
       commits = read.commits;
       counts = counted_done a.counts m.counts (Refused 40401) read.goes.counts refl refl;
       good = λ plain tells is. tt;
@@ -37,6 +38,7 @@ returns-in-Err g c =
       apart = failed_apart _ c.failed.result refl c.failed.ensures.apart;
       goes = read.goes;
       asked = inl read.asked;
+      unsent = λ refused. read.asked;
       commits = read.commits;
       counts = subst (IsCounted a.counts m.counts) (sym reply) (counted_failed a.counts m.counts c.in-Err.e read.goes.counts cause);
       good = λ plain tells is. subst IsGood (sym (reply ∙ ap link_reply (c.in-Err.ensures.plainly plain))) tt;
@@ -54,6 +56,7 @@ returns-then-not-are_within g c =
       apart = failed_apart _ NoPartition refl no_partition_apart;
       goes = read.goes;
       asked = inl read.asked;
+      unsent = λ refused. read.asked;
       commits = read.commits;
       counts = counted_done a.counts m.counts (Refused 40402) read.goes.counts refl refl;
       good = λ plain tells is. tt;
@@ -81,6 +84,7 @@ returns-in-Ok g c =
       apart = told_apart c.in-Ok.told;
       goes = goes;
       asked = once_behind c.args.now a.produces m.produces b.produces read.asked sends.asked;
+      unsent = λ refused. absurd (told_refuses c.in-Ok.told refused);
       commits = λ tells. same_commits_on a.log m.log b.log (read.commits tells) (sends.goes.commits (read.goes.telling tells));
       counts = counted_told a.counts m.counts b.counts c.in-Ok.told read.goes.counts goes.counts sends.codes;
       good = λ plain tells is.
@@ -106,6 +110,7 @@ returns-in-Err-send_parts g c =
       apart = failed_apart _ c.failed-in-Err-send_parts.result refl c.failed-in-Err-send_parts.ensures.apart;
       goes = goes;
       asked = once_behind c.args.now a.produces m.produces b.produces read.asked sends.asked;
+      unsent = λ refused. absurd (failed_refuses c.failed-in-Err-send_parts.result c.failed-in-Err-send_parts.ensures.links refused);
       commits = λ tells. same_commits_on a.log m.log b.log (read.commits tells) (sends.goes.commits (read.goes.telling tells));
       counts = subst (IsCounted a.counts b.counts) (sym reply) (counted_failed a.counts b.counts c.in-Err-send_parts.e goes.counts (comes_on a.counts m.counts b.counts c.in-Err-send_parts.e read.goes.counts sends.goes.answers.cause));
       good = λ plain tells is. subst IsGood (sym (reply ∙ ap link_reply (sends.plainly (read.goes.plainly plain)))) tt;
