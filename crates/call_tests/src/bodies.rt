@@ -54,7 +54,12 @@ const PLACES: [(&str, &str, &str, &str); 16] = [
         "tim%65out=%32%35&x=1+1",
         "records a.b_c-9Z - timeout 25",
     ),
-    ("POST", "/consumers/g", "", "create g unnamed end 1 1000"),
+    (
+        "POST",
+        "/consumers/g",
+        "",
+        "create g unnamed binary end 1 1000",
+    ),
     ("DELETE", "/consumers/g/instances/c1", "", "delete g c1"),
     ("GET", ASSIGNMENTS_OF, "", "assignments g c1"),
     (
@@ -72,46 +77,51 @@ fn reads_each_place_without_a_body(rt: HostRuntime) -> Result<(), Fail> {
     places_read_as(&rt, rt.alloc(), &PLACES)
 }
 
-const SETTINGS: [(&[u8], &str); 10] = [
+const SETTINGS: [(&[u8], &str); 12] = [
     (
         b"{\"name\":null,\"format\":null}",
-        "create g unnamed end 1 1000",
+        "create g unnamed binary end 1 1000",
     ),
     (
         b"{\"name\":\"Auto-x\",\"id\":7}",
-        "create g Auto-x end 1 1000",
+        "create g Auto-x binary end 1 1000",
     ),
     (
         b"{\"name\":5,\"name\":\"a/\\u20ac\"}",
-        "create g a/\u{20ac} end 1 1000",
+        "create g a/\u{20ac} binary end 1 1000",
     ),
     (
         b"{\"format\":\"binary\",\"auto.offset.reset\":\"latest\"}",
-        "create g unnamed end 1 1000",
+        "create g unnamed binary end 1 1000",
+    ),
+    (b"{\"format\":\"json\"}", "create g unnamed json end 1 1000"),
+    (
+        b"{\"format\":\"avro\",\"format\":\"\\u006ason\"}",
+        "create g unnamed json end 1 1000",
     ),
     (
         b"{\"auto.offset.reset\":\"earliest\",\"auto.commit.enable\":false}",
-        "create g unnamed start 1 1000",
+        "create g unnamed binary start 1 1000",
     ),
     (
         b"{\"auto.offset.reset\":null,\"auto.commit.enable\":\"true\"}",
-        "create g unnamed end 1 1000",
+        "create g unnamed binary end 1 1000",
     ),
     (
         b"{\"fetch.min.bytes\":4194304,\"consumer.request.timeout.ms\":0}",
-        "create g unnamed end 4194304 0",
+        "create g unnamed binary end 4194304 0",
     ),
     (
         b"{\"fetch.min.bytes\":\"1\",\"consumer.request.timeout.ms\":\"30000\"}",
-        "create g unnamed end 1 30000",
+        "create g unnamed binary end 1 30000",
     ),
     (
         b"{\"fetch.min.bytes\":\"00000000000000000000000000007\"}",
-        "create g unnamed end 7 1000",
+        "create g unnamed binary end 7 1000",
     ),
     (
         b"{\"fetch.min.bytes\":-1,\"consumer.request.timeout.ms\":\"-1\"}",
-        "create g unnamed end 1 1000",
+        "create g unnamed binary end 1 1000",
     ),
 ];
 
@@ -120,12 +130,13 @@ fn takes_settings_within_their_limits(rt: HostRuntime) -> Result<(), Fail> {
     bodies_read_as(&rt, rt.alloc(), CREATE, &SETTINGS)
 }
 
-const BEYOND: [&[u8]; 20] = [
+const BEYOND: [&[u8]; 21] = [
     b"{\"name\":\"\"}",
     b"{\"name\":\"auto-\"}",
     b"{\"name\":\"a\\u001fb\"}",
     b"{\"name\":\"a\\u007f\"}",
-    b"{\"format\":\"json\"}",
+    b"{\"format\":\"avro\"}",
+    b"{\"format\":\"JSON\"}",
     b"{\"format\":5}",
     b"{\"auto.offset.reset\":\"none\"}",
     b"{\"auto.offset.reset\":true}",
@@ -155,7 +166,7 @@ const BAD_CREATES: [&[u8]; 8] = [
     b"{}x",
     b"{\"name\":5}",
     b"{\"name\":\"c1\",\"name\":[]}",
-    b"{\"format\":\"json\",\"name\":5}",
+    b"{\"format\":\"avro\",\"name\":5}",
     b"{\"name\":\"\xff\"}",
 ];
 

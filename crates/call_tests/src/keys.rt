@@ -1,6 +1,6 @@
 use broker_link::Edge;
 use gate_io::{Items, Text};
-use rest_calls::{Call, Question, Settings, key_of};
+use rest_calls::{Call, Format, Question, Settings, key_of};
 use std::alloc::Global;
 use std::test::Fail;
 
@@ -8,6 +8,7 @@ fn key_of_a_create(alloc: Global) -> Result<Items<u8>, Fail> {
     let group = Text::from_str(alloc, "g")?;
     let name = Text::from_str(alloc, "c1")?;
     let settings = Settings {
+        format: Format::Binary,
         reset: Edge::End,
         min_bytes: 1,
         timeout_ms: 1000,

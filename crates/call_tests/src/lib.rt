@@ -4,6 +4,8 @@
 #[cfg(test)]
 mod bodies;
 #[cfg(test)]
+mod json_records;
+#[cfg(test)]
 mod keys;
 #[cfg(test)]
 mod media;

@@ -87,7 +87,7 @@ fn a_partition_that_is_named_is_ignored_at_another(rt: HostRuntime) -> Result<()
     bodies_read_as(&rt, rt.alloc(), PRODUCE_TO, &READABLE_THERE)
 }
 
-const UNREADABLE: [&[u8]; 21] = [
+const UNREADABLE: [&[u8]; 20] = [
     b"",
     b"null",
     b"[]",
@@ -108,7 +108,6 @@ const UNREADABLE: [&[u8]; 21] = [
     b"\xef\xbb\xbf{\"records\":[{\"partition\":0}]}",
     b"{\"records\":[{\"partition\":0}],\"a\":\"\xff\"}",
     b"{\"records\":[{\"partition\":0}],\"a\":\"\\ud800\"}",
-    b"{\"records\":[{\"partition\":0}],\"a\":1e999}",
 ];
 
 #[test]
@@ -116,11 +115,10 @@ fn refuses_a_body_without_records(rt: HostRuntime) -> Result<(), Fail> {
     bodies_all_read_as(&rt, rt.alloc(), PRODUCE, &UNREADABLE, UNREAD)
 }
 
-const BAD_MEMBERS: [&[u8]; 23] = [
+const BAD_MEMBERS: [&[u8]; 22] = [
     b"{\"records\":[{\"partition\":0},5]}",
     b"{\"records\":[{\"partition\":0},\"partition\"]}",
     b"{\"records\":[{\"partition\":0},{\"partition\":-1}]}",
-    b"{\"records\":[{\"partition\":0},{\"partition\":-0}]}",
     b"{\"records\":[{\"partition\":0},{\"partition\":2147483648}]}",
     b"{\"records\":[{\"partition\":0},{\"partition\":4294967296}]}",
     b"{\"records\":[{\"partition\":0},{\"partition\":18446744073709551616}]}",

@@ -4,7 +4,7 @@ use crate::sample::request_of;
 use broker_link::{Edge, TopicPart};
 use gate_io::{Items, Text};
 use http_conn::Request;
-use rest_calls::{Call, Payload, Question, Row, Settings, call_of};
+use rest_calls::{Accepted, Call, Format, Payload, Question, Row, Settings, call_of};
 use rest_codes::Reply;
 use rest_routes::Routes;
 use std::alloc::{AllocError, Global};
@@ -65,12 +65,16 @@ fn show_names(out: &mut String, kind: &str, group: &Text, name: &str) -> Result<
 }
 
 fn show_settings(alloc: Global, out: &mut String, settings: &Settings) -> Result<(), AllocError> {
+    let format = match settings.format {
+        Format::Binary => "binary",
+        Format::Json => "json",
+    };
     let reset = match settings.reset {
         Edge::Start => "start",
         Edge::End => "end",
     };
     let (bytes, wait) = (settings.min_bytes, settings.timeout_ms);
-    let text = format!(in alloc; " {reset} {bytes} {wait}")?;
+    let text = format!(in alloc; " {format} {reset} {bytes} {wait}")?;
     out.push_str(text.as_str())
 }
 
@@ -80,6 +84,20 @@ fn show_parts(alloc: Global, out: &mut String, parts: &[TopicPart]) -> Result<()
         let (topic, partition) = (part.topic.as_str(), part.partition);
         let text = format!(in alloc; " {topic}/{partition}")?;
         out.push_str(text.as_str())?;
+    }
+    Ok(())
+}
+
+/// The formats that are named.
+fn show_accepts(out: &mut String, accepts: Accepted) -> Result<(), AllocError> {
+    for (is_named, text) in [
+        (accepts.binary, " binary"),
+        (accepts.json, " json"),
+        (accepts.avro, " avro"),
+    ] {
+        if is_named {
+            out.push_str(text)?;
+        }
     }
     Ok(())
 }
@@ -159,10 +177,12 @@ fn show_call(alloc: Global, out: &mut String, call: &Call) -> Result<(), AllocEr
         Call::Records {
             group,
             instance,
+            accepts,
             timeout,
             max_bytes,
         } => {
             show_names(out, "records", group, instance.as_str())?;
+            show_accepts(out, *accepts)?;
             show_limit(alloc, out, "timeout", *timeout)?;
             show_limit(alloc, out, "max_bytes", *max_bytes)
         }
@@ -188,6 +208,13 @@ fn shown(alloc: Global, read: &Result<Call, Reply>) -> Result<String, AllocError
     Ok(out)
 }
 
+/// What a request reads as.
+pub(crate) fn reading_of(alloc: Global, request: &Request) -> Result<String, Fail> {
+    let routes = Routes::new(alloc)?;
+    let read = call_of(alloc, &routes, request);
+    Ok(shown(alloc, &read)?)
+}
+
 /// What a request of this method, path and content type, with none where it is empty, reads as.
 pub(crate) fn told(
     alloc: Global,
@@ -197,9 +224,7 @@ pub(crate) fn told(
 ) -> Result<String, Fail> {
     let (method, path, media) = line;
     let request = request_with(alloc, method, path, query, media, body)?;
-    let routes = Routes::new(alloc)?;
-    let read = call_of(alloc, &routes, &request);
-    Ok(shown(alloc, &read)?)
+    reading_of(alloc, &request)
 }
 
 /// Each body, sent so, reads as the text beside it.

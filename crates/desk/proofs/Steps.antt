@@ -1,13 +1,14 @@
 -- A consumer's call is one step of the model.
 use Rattle.std.proofs.Common.{◌≡◌, ℕ, suc, ◌+◌, ◌-◌, ◌^◌, ◌<◌, Bool, true, false, cond, List, [], ◌∷◌, get_or, zero, refl, ap, sym, ◌∙◌, subst, arith, inl, Option, Some, None}
-use Rattle.std.specs.Prelude.{ℤ, bytes_eq, map, max, option_map, length, ◌≢◌, IfSome}
+use Rattle.std.specs.Prelude.{ℤ, bytes_eq, codes, map, max, option_map, length, ◌≢◌, IfSome}
 use Rattle.gate_io.specs.Counts.{Rose}
 use Rattle.model.specs.state.Log.{TopicPart, Topic, Log, IsLog, Keeps, parts_in}
 use Rattle.model.specs.state.World.{Key, is_key, Consumer, World, IsConsumer}
 use Rattle.model.specs.state.World.{Mode}
 use Rattle.model.specs.state.World.Mode.{Unset, ByTopics, Assigned}
 use Rattle.model.proofs.Moves.{same_from_is_key}
-use Rattle.model.specs.state.World.Format.{Binary}
+use Rattle.model.specs.state.World.{Format}
+use Rattle.model.specs.state.World.Format.{Binary, Json, Avro}
 use Rattle.model.specs.state.Forms.{Forms, IsForms, Showing}
 use Rattle.model.specs.state.Forms.Showing.{Text, Unshown}
 use Rattle.model.specs.state.Entry.{Act, Call, Event, Reply, Entry}
@@ -49,9 +50,14 @@ text_in : Showing → List ℕ
 text_in (Text text) = text
 text_in (Unshown reason) = []
 
+null_shown : (format : Format) → shows format None ≡ Text (codes "null")
+null_shown Binary = refl
+null_shown Json = refl
+null_shown Avro = refl
+
 pub forms_from : (forms : Forms) → ((table : List (List ℕ)) → IsTable shown table forms) → IsForms forms
 unfolding text_in
-forms_from shown_forms is = record { null = λ format. is [] format None; base64 = λ bytes. text_in (shows Binary (Some bytes)); binary = λ bytes. is [] Binary (Some bytes) }
+forms_from shown_forms is = record { null = λ format. is [] format None ∙ null_shown format; base64 = λ bytes. text_in (shows Binary (Some bytes)); binary = λ bytes. is [] Binary (Some bytes) }
 
 -- ---- what an entry owes
 

@@ -73,9 +73,9 @@ live_looks (call.Assign group name parts) key (Assign ats) is moment turn c a ev
 live_looks (call.Assign group name parts) key (Assign ats) is moment turn c a events b c2 (e, same, inr (mode, inl (inr assigned))) = absurd (cc assigned.says)
 live_looks (call.Assign group name parts) key (Assign ats) is moment turn c a events b c2 (e, same, inr (mode, inr (inl wants))) = absurd (cc wants.says)
 live_looks (call.Assign group name parts) key (Assign ats) is moment turn c a events b c2 (e, same, inr (mode, inr (inr cut))) = (let x = cut.1 in absurd (cc x.says))
-live_looks (call.Records group name timeout bound) key (Records formats t m) is moment turn c a events b c2 (inl (apart, e, same, inl refused, left)) = absurd (cc refused)
-live_looks (call.Records group name timeout bound) key (Records formats t m) is moment turn c a events b c2 (inl (apart, e, same, inr wants, left)) = absurd (cc wants)
-live_looks (call.Records group name timeout bound) key (Records formats t m) is moment turn c a events b c2 (inr (allowed, look)) = look_ends key moment turn t m c a events b c2 look
+live_looks (call.Records group name accepts timeout bound) key (Records formats t m) is moment turn c a events b c2 (inl (apart, e, same, inl refused, left)) = absurd (cc refused)
+live_looks (call.Records group name accepts timeout bound) key (Records formats t m) is moment turn c a events b c2 (inl (apart, e, same, inr wants, left)) = absurd (cc wants)
+live_looks (call.Records group name accepts timeout bound) key (Records formats t m) is moment turn c a events b c2 (inr (allowed, look)) = look_ends key moment turn t m c a events b c2 look
 live_looks code key act is moment turn c a events b c2 live = absurd (cc is)
 
 refused_none : (c2 : Option Consumer) → IsRefused 40403 None None c2 ⊎ IsWanting None None c2 → ⊥

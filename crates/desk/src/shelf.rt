@@ -10,7 +10,7 @@ ghost use Rattle.desk.specs.Shelf.{is_create_call, is_delete_call, is_empty_repl
 
 use broker_link::Edge;
 use instance::Outcome;
-use rest_calls::{Call, Settings};
+use rest_calls::{Call, Format, Settings};
 use rest_codes::Reply;
 
 /// The group that a consumer's call names.
@@ -51,6 +51,7 @@ pub(crate) fn settings_in(call: &Call) -> Settings
     match call {
         Call::Create { settings, .. } => *settings,
         _ => Settings {
+            format: Format::Binary,
             reset: Edge::End,
             min_bytes: 1,
             timeout_ms: 1000,

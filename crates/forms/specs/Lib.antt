@@ -1,3 +1,4 @@
+pub mod Formats
 pub mod Shown
 pub mod Stored
 pub mod Text

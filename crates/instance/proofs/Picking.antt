@@ -5,16 +5,11 @@ use Rattle.std.proofs.lemmas.List.{get_or-map, length-map, length-take, map_more
 use Rattle.json.specs.Print.{quoted}
 use Rattle.model.specs.state.Log.{TopicPart, Row}
 use Rattle.model.specs.step.Walk.{Lot, Item}
-use Rattle.model.specs.state.World.Format.{Binary}
-use Rattle.model.specs.texts.Bodies.{array, joined, item_text}
 use Rattle.broker_link.specs.Fetching.{row_of}
 use Rattle.broker_link.specs.declared.link.Stored.{Stored}
 use Rattle.broker_link.specs.declared.fetch.Fetched.{Fetched}
 use Rattle.broker_link.specs.declared.place.Place.{Place as CodePlace}
 use Rattle.instance.specs.declared.walk.Pick.{Pick}
-use Rattle.rest_replies.specs.Forms.{forms}
-use Rattle.rest_replies.proofs.JoinedLemmas.{joined_push}
-use Rattle.instance.specs.Items.{quoted_topics}
 use Rattle.broker_link.specs.Places.{at_in}
 use Rattle.instance.specs.Walk.{lot_of, lots_of, lot_at, item_in, IsPick, HasRow, HasOffsets, IsOffset, stored_in}
 use Rattle.std.specs.List.{All}
@@ -69,56 +64,55 @@ item_is places fetched p d same pick =
     ap (λ (l : Lot). record { at = l.place.at; row = slice_index_or l.rows p.row none }) lot
     ∙ ap (λ (r : Row). record { at = at_in (slice_index_or places p.lot d); row = r }) (get_or-map row_of f.rows p.row no_stored none within)
 
--- the text of one row more
-pub texts_more : (lots : List Lot) (picks : List Pick) (i : ℕ) (p d : Pick) (text more : List ℕ) → i < length picks → p ≡ slice_index_or picks i d
-    → text ≡ codes "[" ++ joined (map (item_text forms Binary) (map (item_in lots) (take i picks)))
-    → more ≡ text ++ (cond (i == 0) [] (codes ",") ++ item_text forms Binary (item_in lots p))
-    → more ≡ codes "[" ++ joined (map (item_text forms Binary) (map (item_in lots) (take (i + 1) picks)))
-texts_more lots picks i p d text more lt here is added =
-    let xs : List Item = map (item_in lots) (take i picks) in
-    let item : Item = item_in lots p in
-    let next : map (item_in lots) (take (i + 1) picks) ≡ xs ++ item ∷ [] = map_more (item_in lots) picks i d lt ∙ ap (λ (q : Pick). xs ++ item_in lots q ∷ []) (sym here) in
-    let texts : map (item_text forms Binary) (xs ++ item ∷ []) ≡ map (item_text forms Binary) xs ++ item_text forms Binary item ∷ [] = Rattle.std.proofs.lemmas.List.map_push (item_text forms Binary) xs item in
-    let long : length (map (item_text forms Binary) xs) ≡ i = omega (arith, length-map xs (item_text forms Binary), length-map (take i picks) (item_in lots), length-take i picks, lt) in
-    let joined_is : joined (map (item_text forms Binary) (map (item_in lots) (take (i + 1) picks))) ≡ joined (map (item_text forms Binary) xs) ++ (cond (i == 0) [] (codes ",") ++ item_text forms Binary item) =
-    ap (λ (items : List Item). joined (map (item_text forms Binary) items)) next ∙ (ap joined texts ∙ joined_push (map (item_text forms Binary) xs) (item_text forms Binary item) i long) in
-    added ∙ (ap (λ l. l ++ (cond (i == 0) [] (codes ",") ++ item_text forms Binary item)) is
-    ∙ (append_assoc (codes "[") (joined (map (item_text forms Binary) xs)) (cond (i == 0) [] (codes ",") ++ item_text forms Binary item) ∙ ap (λ l. codes "[" ++ l) (sym joined_is)))
-
--- the text of all, between the brackets
-pub texts_whole : (lots : List Lot) (picks : List Pick) (i : ℕ) (text whole : List ℕ) → length picks ≤ i
-    → text ≡ codes "[" ++ joined (map (item_text forms Binary) (map (item_in lots) (take i picks))) → whole ≡ text ++ codes "]"
-    → whole ≡ array (map (item_text forms Binary) (map (item_in lots) picks))
-texts_whole lots picks i text whole le is added =
-    let all : text ≡ codes "[" ++ joined (map (item_text forms Binary) (map (item_in lots) picks)) = is ∙ ap (λ (ps : List Pick). codes "[" ++ joined (map (item_text forms Binary) (map (item_in lots) ps))) (take_all i picks le) in
-    added ∙ (ap (λ l. l ++ codes "]") all ∙ append_assoc (codes "[") (joined (map (item_text forms Binary) (map (item_in lots) picks))) (codes "]"))
-
--- the topics are as many as the places
-pub topics_within : (places : List CodePlace) (topics : List (List ℕ)) (i : ℕ) → topics ≡ quoted_topics places → i < length places → i < length topics
-topics_within places topics i are lt = omega (arith, ap length are, length-map places (λ (p : CodePlace). quoted p.topic))
-
--- the topic of a pick's lot, as a JSON string
-pub quoted_topic : (places : List CodePlace) (topics : List (List ℕ)) (p : Pick) (place : CodePlace) (topic : List ℕ) → topics ≡ quoted_topics places → p.lot < length places
-    → place ≡ slice_index_or places p.lot place → topic ≡ slice_index_or topics p.lot topic → topic ≡ quoted place.topic
-quoted_topic places topics p place topic are lt is found =
-    found ∙ (ap (λ (ts : List (List ℕ)). slice_index_or ts p.lot topic) are ∙ (get_or-map (λ (x : CodePlace). quoted x.topic) places p.lot place topic lt ∙ ap (λ (x : CodePlace). quoted x.topic) (sym is)))
-
--- the text of what a pick names, by what was read for it
-pub item_text_is : (places : List CodePlace) (fetched : List Fetched) (p : Pick) (place : CodePlace) (partition : ℤ) (s : Stored)
+-- what a pick names, by what was read for it
+pub item_read : (places : List CodePlace) (fetched : List Fetched) (p : Pick) (place : CodePlace) (partition : ℤ) (s : Stored)
     → length fetched ≡ length places → IsPick (lots_of places fetched) p → place ≡ slice_index_or places p.lot place → partition ≡ place.partition → s ≡ stored_in fetched p
-    → item_text forms Binary (record { at = record { topic = place.topic; partition = nat_abs partition }; row = row_of s }) ≡ item_text forms Binary (item_in (lots_of places fetched) p)
-item_text_is places fetched p place partition s same pick is part_is row_is =
+    → record { at = record { topic = place.topic; partition = nat_abs partition }; row = row_of s } ≡ item_in (lots_of places fetched) p
+item_read places fetched p place partition s same pick is part_is row_is =
     let item : item_in (lots_of places fetched) p ≡ record { at = at_in place; row = row_of s } =
     item_is places fetched p place same pick ∙ (ap (λ (x : CodePlace). record { at = at_in x; row = row_of (stored_in fetched p) }) (sym is) ∙ ap (λ (x : Stored). record { at = at_in place; row = row_of x }) (sym row_is)) in
-    ap (λ (n : ℤ). item_text forms Binary (record { at = record { topic = place.topic; partition = nat_abs n }; row = row_of s })) part_is ∙ ap (item_text forms Binary) (sym item)
+    ap (λ (n : ℤ). record { at = record { topic = place.topic; partition = nat_abs n }; row = row_of s }) part_is ∙ sym item
 
--- the same with the comma put first
-pub item_more : (lots : List Lot) (picks : List Pick) (i : ℕ) (p d : Pick) (text mid more : List ℕ) → i < length picks → p ≡ slice_index_or picks i d
-    → text ≡ codes "[" ++ joined (map (item_text forms Binary) (map (item_in lots) (take i picks)))
-    → mid ≡ text ++ cond (i == 0) [] (codes ",") → more ≡ mid ++ item_text forms Binary (item_in lots p)
-    → more ≡ codes "[" ++ joined (map (item_text forms Binary) (map (item_in lots) (take (i + 1) picks)))
-item_more lots picks i p d text mid more lt here is comma added =
-    texts_more lots picks i p d text more lt here is (added ∙ (ap (λ l. l ++ item_text forms Binary (item_in lots p)) comma ∙ append_assoc text (cond (i == 0) [] (codes ",")) (item_text forms Binary (item_in lots p))))
+-- the same by the pick's own topic
+pub item_at : (places : List CodePlace) (fetched : List Fetched) (p : Pick) (place : CodePlace) (partition : ℤ) (s : Stored)
+    → length fetched ≡ length places → IsPick (lots_of places fetched) p → place ≡ slice_index_or places p.lot place → partition ≡ place.partition → s ≡ stored_in fetched p
+    → record { at = record { topic = (item_in (lots_of places fetched) p).at.topic; partition = nat_abs partition }; row = row_of s } ≡ item_in (lots_of places fetched) p
+item_at places fetched p place partition s same pick is part_is row_is =
+    let read = item_read places fetched p place partition s same pick is part_is row_is in
+    ap (λ (t : List ℕ). record { at = record { topic = t; partition = nat_abs partition }; row = row_of s }) (sym (ap (λ (x : Item). x.at.topic) read)) ∙ read
+
+-- the row of a pick is the record that came
+pub row_is : (places : List CodePlace) (fetched : List Fetched) (p : Pick) → length fetched ≡ length places → IsPick (lots_of places fetched) p
+    → row_of (stored_in fetched p) ≡ (item_in (lots_of places fetched) p).row
+row_is places fetched p same pick = go places refl
+  where
+    go : (ps : List CodePlace) → places ≡ ps → row_of (stored_in fetched p) ≡ (item_in (lots_of places fetched) p).row
+    go [] e = absurd (let lt = pick_within places fetched p same pick in let n : length places ≡ 0 = ap length e in omega arith)
+    go (d ∷ ps) e = sym (ap (λ (x : Item). x.row) (item_is places fetched p d same pick))
+
+-- what a pick names, by its place and the offset of the record
+pub unread_item : (places : List CodePlace) (fetched : List Fetched) (p : Pick) (place : CodePlace) → length fetched ≡ length places → IsPick (lots_of places fetched) p → place ≡ slice_index_or places p.lot place
+    → record { at = at_in place; row = (item_in (lots_of places fetched) p).row } ≡ item_in (lots_of places fetched) p
+unread_item places fetched p place same pick is =
+    let item = item_is places fetched p place same pick in
+    ap (λ (x : CodePlace). record { at = at_in x; row = (item_in (lots_of places fetched) p).row }) is
+    ∙ (ap (λ (r : Row). record { at = at_in (slice_index_or places p.lot place); row = r }) (ap (λ (x : Item). x.row) item) ∙ sym item)
+
+-- a row of a lot that is among the places is a pick
+pub is_pick : (places : List CodePlace) (fetched : List Fetched) (lot row : ℕ) (f : Fetched) → length fetched ≡ length places → lot < length places → f ≡ slice_index_or fetched lot f → row < length f.rows
+    → IsPick (lots_of places fetched) (record { lot = lot; row = row })
+is_pick [] fetched lot row f same lt is within = absurd (omega arith)
+is_pick (p ∷ places) [] lot row f same lt is within = absurd (omega arith)
+is_pick (p ∷ places) (g ∷ fetched) zero row f same lt is within =
+    (omega arith, omega (arith, within, length-map g.rows row_of, ap (λ (x : Fetched). length x.rows) is))
+is_pick (p ∷ places) (g ∷ fetched) (suc lot) row f same lt is within =
+    let rest = is_pick places fetched lot row f (omega arith) (omega arith) is within in (omega (arith, rest.0), rest.1)
+
+-- the topic of a pick is that of its place
+pub topic_is : (places : List CodePlace) (fetched : List Fetched) (p : Pick) (place : CodePlace) → length fetched ≡ length places → IsPick (lots_of places fetched) p → place ≡ slice_index_or places p.lot place
+    → place.topic ≡ (item_in (lots_of places fetched) p).at.topic
+topic_is places fetched p place same pick is =
+    ap (λ (x : CodePlace). x.topic) is ∙ sym (ap (λ (x : Item). x.at.topic) (item_is places fetched p place same pick))
 
 -- the offset of a record that came is that of an INT64
 pub stored_offset : (fetched : List Fetched) (p : Pick) → All HasOffsets fetched → HasRow fetched p → IsOffset (stored_in fetched p)

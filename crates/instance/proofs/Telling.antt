@@ -75,7 +75,7 @@ either advertise call key now round act is tells plain counts c a answer r off m
 
 pub told_acts : (advertise : List ℕ) (call : Call) (key : Key) (now round : ℕ) (act : Act) → asked_of call ≡ Of key act → (tells plain : Type 0) (counts : Counts) (c : Consumer) (a : Log) (r : CodeReply)
     → c.settings.auto_commit ≡ false → c.mode ≢ ByTopics → ((group instance : List ℕ) (parts : List Part) → call ≡ calls.Assign group instance parts → ⊥)
-    → ((group instance : List ℕ) (timeout bound : Option ℕ) → call ≡ calls.Records group instance timeout bound → ⊥) → TellsSo (map (λ (place : Place). place.at) c.assignment) call r
+    → ((group instance : List ℕ) (accepts : _) (timeout bound : Option ℕ) → call ≡ calls.Records group instance accepts timeout bound → ⊥) → TellsSo (map (λ (place : Place). place.at) c.assignment) call r
     → ActsSo advertise key now round act tells plain counts counts c a [] (Some (response_in r)) a (touched now c)
 told_acts advertise (calls.Produce topic batch) key now round act is tells plain counts c a r off mode no_assign no_records says = absurd (cc is)
 told_acts advertise (calls.Ask question) key now round act is tells plain counts c a r off mode no_assign no_records says = absurd (cc is)
@@ -87,13 +87,13 @@ told_acts advertise (calls.Assign group name parts) key now round (Assign ats) i
 told_acts advertise (calls.Assignments group name) key now round Assignments is tells plain counts c a r off mode no_assign no_records says =
     either advertise (calls.Assignments group name) key now round Assignments is tells plain counts c a (Listed (map (λ (place : Place). place.at) c.assignment)) r off mode says refl refl tt
     (λ turn log. (refl, same a, inl (record { says = refl; left = refl })))
-told_acts advertise (calls.Records group name timeout bound) key now round (Records formats t b) is tells plain counts c a r off mode no_assign no_records says = absurd (no_records group name timeout bound refl)
+told_acts advertise (calls.Records group name accepts timeout bound) key now round (Records formats t b) is tells plain counts c a r off mode no_assign no_records says = absurd (no_records group name accepts timeout bound refl)
 told_acts advertise call key now round act is tells plain counts c a r off mode no_assign no_records says = absurd (cc is)
 
 -- the same as an instance is seen
 pub told_seen : (advertise : List ℕ) (call : Call) (kept : Kept) (key : Key) (live : Seen) → record { key = key; consumer = consumer_of kept } ≡ live → (now round : ℕ) (act : Act) → asked_of call ≡ Of live.key act
     → (tells plain : Type 0) (counts : Counts) (a : Log) (r : CodeReply) (events : List (Key ⊎ Event)) (said : Option Response) → events ≡ [] → said ≡ Some (response_in r)
-    → ((group instance : List ℕ) (parts : List Part) → call ≡ calls.Assign group instance parts → ⊥) → ((group instance : List ℕ) (timeout bound : Option ℕ) → call ≡ calls.Records group instance timeout bound → ⊥)
+    → ((group instance : List ℕ) (parts : List Part) → call ≡ calls.Assign group instance parts → ⊥) → ((group instance : List ℕ) (accepts : _) (timeout bound : Option ℕ) → call ≡ calls.Records group instance accepts timeout bound → ⊥)
     → TellsSo (map at_in kept.assignment.items) call r → ActsSo advertise live.key now round act tells plain counts counts live.consumer a events said a (touched now (consumer_of kept))
 told_seen advertise call kept key live seen now round act is tells plain counts a r events said none says no_assign no_records tells_so =
     let old : Consumer = consumer_of kept in

@@ -10,7 +10,7 @@ use Rattle.model.specs.state.Entry.Act.{Create, Delete, Assign, Assignments, Rec
 use Rattle.model.specs.state.Entry.Call.{Of}
 use Rattle.model.specs.state.Entry.Reply.{Want}
 use Rattle.model.specs.step.Fixed.{SameCommits}
-use Rattle.model.specs.step.Look.{is_due, IsLook, Looks}
+use Rattle.model.specs.step.Look.{allows, is_due, IsLook, Looks}
 use Rattle.model.specs.step.Acts.{Live}
 use Rattle.model.specs.history.Legal as legal
 use Rattle.model.specs.history.Causes.Pumped.{Unpumped}
@@ -60,6 +60,12 @@ wanting_look key moment turn timeout bound c a off log =
       ends = inl (record { why = Want; links = tt; cause = inl refl; marks = refl; says = refl; left = refl });
     }
 
+-- whichever formats the request accepts
+wanting_looks : (key : Key) (moment : ℕ) (turn : Turn) (formats : List Format) (timeout bound : Option ℕ) (c : Consumer) (a : Log) → c.settings.auto_commit ≡ false → IsLog a
+    → (allowed : Bool) → allows formats c.settings.format ≡ allowed → Looks key moment turn formats timeout bound c a [] (Some Want) a (Some (touched moment c))
+wanting_looks key moment turn formats timeout bound c a off log true is = inr (is, wanting_look key moment turn timeout bound c a off log)
+wanting_looks key moment turn formats timeout bound c a off log false is = inl (is, refl, same a, inr refl, refl)
+
 pub mode_is : (places : List Place) → mode_of places ≢ ByTopics
 mode_is [] is = absurd (cc is)
 mode_is (place ∷ places) is = absurd (cc is)
@@ -73,9 +79,7 @@ wanting (call.Create group name settings) key (Create s) is moment turn c a off 
 wanting (call.Delete group name) key Delete is moment turn c a off mode log = (refl, inl (not_due c 0 off, same a), inr (record { says = refl; left = refl }))
 wanting (call.Assign group name parts) key (Assign ats) is moment turn c a off mode log = (refl, same a, inr (mode, inr (inl (record { says = refl; left = refl }))))
 wanting (call.Assignments group name) key Assignments is moment turn c a off mode log = (refl, same a, inr (record { says = refl; left = refl }))
-wanting (call.Records group name timeout bound) key (Records formats t b) is moment turn c a off mode log =
-    let nil : formats ≡ [] = cc is in
-    subst (λ (fs : List Format). Looks key moment turn fs t b c a [] (Some Want) a (Some (touched moment c))) (sym nil) (inr (refl, wanting_look key moment turn t b c a off log))
+wanting (call.Records group name accepts timeout bound) key (Records formats t b) is moment turn c a off mode log = wanting_looks key moment turn formats t b c a off log (allows formats c.settings.format) refl
 wanting call key act is moment turn c a off mode log = absurd (cc is)
 
 pub unpumped : (call : Call) (key : Key) (act : Act) → asked_of call ≡ Of key act → (before after : legal.Counts) (c : Consumer) → c.mode ≢ ByTopics → LooksWell before after None None c act []
@@ -85,7 +89,7 @@ unpumped (call.Create group name settings) key (Create s) is before after c mode
 unpumped (call.Delete group name) key Delete is before after c mode = tt
 unpumped (call.Assign group name parts) key (Assign ats) is before after c mode = tt
 unpumped (call.Assignments group name) key Assignments is before after c mode = tt
-unpumped (call.Records group name timeout bound) key (Records formats t b) is before after c mode =
+unpumped (call.Records group name accepts timeout bound) key (Records formats t b) is before after c mode =
     record { pumped = Unpumped; pump = record { pumps = λ by reached. absurd (mode by); quiet = λ other. refl; steady = λ e. absurd (cc e); not_yet = λ e. absurd (cc e); lost = λ e. absurd (cc e); shared = λ ats e. absurd (cc e) }; ties = λ ats e. absurd (cc e); places = λ looked. (refl, λ e. absurd (cc e)) }
 unpumped call key act is before after c mode = absurd (cc is)
 

@@ -1,5 +1,5 @@
 -- How a look ends that its walk ends (Confluent REST Proxy API v2, consumer records).
-use Rattle.std.specs.Prelude.{ℕ, ◌≡◌, ◌⊎◌, ◌++◌, List, [], ◌∷◌, Option, Some}
+use Rattle.std.specs.Prelude.{ℕ, ◌≡◌, ◌⊎◌, ◌++◌, List, map, Option, Some}
 use Rattle.model.specs.step.Walk.{Lot, unwalked, walk, turned}
 use Rattle.model.specs.state.World.{Consumer}
 use Rattle.model.specs.state.Entry.{Call, Event, Reply, Turn}
@@ -28,19 +28,25 @@ own_of (CodeLooked round) = Looked round
 abbrev pub turn_of : ℕ → Turn
 turn_of round = record { round = round; forms = forms }
 
--- The walk over these lots ended the look: what is said, and the consumer after it. No reply of it is a failure.
-pub record IsEnded (round wait bound : ℕ) (c : Consumer) (lots : List Lot) (said : Option Response) (c2 : Consumer) : Type 0 where
+-- The walk over these lots ended the look: its marks, what is said, and the consumer after it. No reply of it is a failure.
+pub record IsEnded (round wait bound : ℕ) (c : Consumer) (lots : List Lot) (looked : List Event) (said : Option Response) (c2 : Consumer) : Type 0 where
   pub reply : Option Reply
-  pub ends : LookEnds c.last_use (turn_of round) wait c (walk (rule_of bound) unwalked (turned c.rotation lots)) (Looked round ∷ []) reply (Some c2)
+  pub ends : LookEnds c.last_use (turn_of round) wait c (walk (rule_of bound c.settings.format) unwalked (turned c.rotation lots)) looked reply (Some c2)
   pub says : (advertise : List ℕ) (call : Call) → said ≡ said_of advertise forms (Some call) reply
   pub counted : (before after : Counts) → CountsKept before after → IsCountedIf before after reply
   pub good : IsGoodIf reply
+
+-- The same, with the events so far and those behind them.
+pub record IsSettled (round wait bound : ℕ) (c : Consumer) (lots : List Lot) (before events : List CodeEvent) (said : Option Response) (c2 : Consumer) : Type 0 where
+  pub marks : List CodeEvent
+  pub ended : IsEnded round wait bound c lots (map own_of marks) said c2
+  pub added : events ≡ before ++ marks
 
 -- The look is over: by want of memory, with nothing moved, or by its walk. `before` are the events so far.
 abbrev pub IsOver : (round wait bound : ℕ) → Consumer → List Lot → List CodeEvent → Outcome → Consumer → Type 0
 IsOver round wait bound c lots before out c2 =
     ((out.reply ≡ Some reply.Want) × (out.events ≡ before) × (c2 ≡ c))
-    ⊎ (IsEnded round wait bound c lots (said_in out) c2 × (out.events ≡ before ++ CodeLooked round ∷ []))
+    ⊎ IsSettled round wait bound c lots before out.events (said_in out) c2
 
 -- all but the assignment is kept
 pub record IsKept (c d : CodeConsumer) : Type 0 where

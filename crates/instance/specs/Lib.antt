@@ -1,7 +1,6 @@
 pub mod Views
 pub mod Telling
 pub mod Walk
-pub mod Items
 pub mod Ending
 pub mod Passing
 pub mod Gathering

@@ -1,5 +1,5 @@
 ghost use Rattle.std.specs.Prelude.{◌≡◌, ◌≢◌, ◌<◌, ◌*◌, ◌^◌, ℕ, List, [], IfOk, Option, None, Some, map};
-ghost use Rattle.model.specs.state.World.{IsConsumer, fresh, is_key};
+ghost use Rattle.model.specs.state.World.{Format, IsConsumer, fresh, is_key};
 ghost use Rattle.model.specs.state.World.Mode.{ByTopics};
 ghost use Rattle.model.specs.state.Entry.{Act};
 ghost use Rattle.model.specs.state.Entry.Act.{Records};
@@ -115,8 +115,8 @@ impl Instance {
         requires whose { (act : Act) × (asked_of call.now ≡ Of self.old.key act) }
         ensures acts { (advertise : List ℕ) (act : Act) → asked_of call.now ≡ Of self.old.key act
             → ActsSo advertise self.old.key now round act (L.stand link.old).tells (L.stand link.old).plain (L.stand link.old).counts (L.stand link.new).counts self.old.consumer (L.stand link.old).log (events_in result) (said_in result) (L.stand link.new).log self.new.consumer }
-        ensures handed { (timeout bound : Option ℕ) → asked_of call.now ≡ Of self.old.key (Records [] timeout bound)
-            → (L.stand link.old).in_turn → (L.stand link.old).tells → LooksAtGiven now round timeout bound self.old.consumer (events_in result) (said_in result) (L.stand link.new).log self.new.consumer }
+        ensures handed { (formats : List Format) (timeout bound : Option ℕ) → asked_of call.now ≡ Of self.old.key (Records formats timeout bound)
+            → (L.stand link.old).in_turn → (L.stand link.old).tells → LooksAtGiven now round formats timeout bound self.old.consumer (events_in result) (said_in result) (L.stand link.new).log self.new.consumer }
         ensures key { self.new.key ≡ self.old.key }
         ensures unsubscribed { self.old.consumer.mode ≢ ByTopics }
         ensures waits { result.reply ≡ None → 10 * round < 2 ^ 32 }
@@ -127,6 +127,7 @@ impl Instance {
     {
         match call {
             Call::Records {
+                accepts,
                 timeout,
                 max_bytes,
                 ..
@@ -136,6 +137,7 @@ impl Instance {
                 link,
                 now,
                 round,
+                *accepts,
                 *timeout,
                 *max_bytes,
             ),

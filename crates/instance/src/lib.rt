@@ -4,7 +4,6 @@
 mod event;
 mod fetching;
 mod instance;
-mod items;
 mod look;
 mod moves;
 mod resets;

@@ -1,4 +1,4 @@
-ghost use Rattle.std.specs.Prelude.{◌≡◌, ◌*◌, ◌≤◌, ◌^◌, min, None, ◌++◌, [], ◌∷◌, ◌<◌, All, IfOk, IfErr, OnErr, List, ℕ, length, map, option_map};
+ghost use Rattle.std.specs.Prelude.{◌≡◌, ◌*◌, ◌≤◌, ◌^◌, min, None, Some, codes, string_bytes, ◌++◌, [], ◌∷◌, ◌<◌, All, IfOk, IfErr, OnErr, List, ℕ, length, map, option_map};
 ghost use Rattle.model.specs.state.Log.{IsLog};
 ghost use Rattle.model.specs.state.World.{IsInOrder, IsLow, Key};
 ghost use Rattle.model.specs.state.Entry.Act.{Records};
@@ -9,31 +9,33 @@ ghost use Rattle.broker_link.specs.Fetching.{edge_view, rows_in};
 ghost use Rattle.broker_link.specs.declared.link.LinkNo.TheVariants.{Want};
 ghost use Rattle.instance.specs.Gathering.{AreGiven, HaveAll, IsHand, SetsBack};
 ghost use Rattle.instance.specs.Passing.{Consults, Passes};
-ghost use Rattle.model.specs.texts.Bodies.{array, item_text};
-ghost use Rattle.model.specs.step.Walk.{bytes_of, turned, unwalked, walk};
-ghost use Rattle.model.specs.state.World.Format.{Binary};
-ghost use Rattle.rest_calls.specs.Responses.{response_in};
+ghost use Rattle.forms.specs.Formats.{format_of};
+ghost use Rattle.model.specs.state.Entry.Reply.{Unread};
+ghost use Rattle.model.specs.step.Walk.{turned, unwalked, walk};
+ghost use Rattle.model.specs.texts.Texts.Response.{Body};
+ghost use Rattle.rest_calls.specs.Responses.{format_in, response_in};
+ghost use Rattle.rest_calls.specs.Views.{formats_in};
+ghost use Rattle.rest_replies.specs.Failure.{Says};
 ghost use Rattle.instance.specs.declared.event.Event.TheVariants.{Looked};
-ghost use Rattle.rest_replies.specs.Forms.{forms};
 ghost use Rattle.consumer_state.specs.Assign.{ActsSo};
-ghost use Rattle.instance.specs.Ending.{IsEnded, IsKept, IsOver};
+ghost use Rattle.instance.specs.Ending.{IsKept, IsOver, IsSettled};
 ghost use Rattle.instance.specs.Handed.{LooksAtGiven};
-ghost use Rattle.instance.specs.Walk.{HasOffsets, IsPick, lots_of, rule_of, seen};
+ghost use Rattle.instance.specs.Walk.{HasOffsets, HasRow, IsPick, IsSoFar, item_in, lots_of, rule_of, seen};
 ghost use Rattle.broker_link.specs.Places.{place_of};
 ghost use Rattle.consumer_state.specs.Views.{IsSound, consumer_of};
 ghost use Rattle.instance.specs.Views.{events_in, said_in};
 
 use crate::fetching::{all_inside, bytes_for, fetch_from};
-use crate::items::shown_text;
 use crate::moves::move_behind;
 use crate::resets::set_back;
-use crate::walk::{Lots, Walk, go_round};
+use crate::walk::{Lots, Pick, Rule, Walk, go_round, stored_at};
 use crate::{Event, Outcome};
 use broker_link::{Edge, Fetched, Link, LinkNo, Place};
 use consumer_state::Consumer;
 use gate_io::{Items, Text};
+use rest_calls::{Accepted, Format, allows};
 use rest_codes::{Media, Reply};
-use rest_replies::link_failure;
+use rest_replies::{link_failure, refused, unread};
 use std::alloc::{AllocError, Global};
 
 /// As many key and value bytes as a reply has at most, but for those of its first row.
@@ -91,37 +93,67 @@ fn take_rows(
     requires sound { IsSound consumer.now }
     requires same { length fetched.now ≡ length consumer.now.assignment.items }
     ensures walked { IfOk result (λ w. seen (lots_of consumer.now.assignment.items fetched.now) w
-        ≡ walk (rule_of bound) unwalked (turned consumer.now.rotation (lots_of consumer.now.assignment.items fetched.now))) }
-    ensures counted { IfOk result (λ w. w.bytes ≡ bytes_of (seen (lots_of consumer.now.assignment.items fetched.now) w).taken) }
-    ensures picks { IfOk result (λ w. All (IsPick (lots_of consumer.now.assignment.items fetched.now)) w.picks.items) }
+        ≡ walk (rule_of bound (format_of consumer.now.settings.format)) unwalked (turned consumer.now.rotation (lots_of consumer.now.assignment.items fetched.now))) }
+    ensures so_far { IfOk result (IsSoFar (lots_of consumer.now.assignment.items fetched.now) (format_of consumer.now.settings.format)) }
 {
     let lots = Lots {
         places: consumer.assignment.as_slice(),
         fetched,
     };
-    go_round(alloc, &lots, consumer.rotation, bound)
+    let rule = Rule {
+        bound,
+        format: consumer.settings.format,
+    };
+    go_round(alloc, &lots, consumer.rotation, rule)
 }
 
-/// Their text.
-fn text_of(
+/// The reply that names a row that doesn't read.
+fn unread_at(
     consumer: &Consumer,
     alloc: Global,
     fetched: &[Fetched],
-    walk: &Walk,
-) -> Result<Text, AllocError>
+    pick: Pick,
+) -> Result<Reply, AllocError>
     requires same { length fetched.now ≡ length consumer.now.assignment.items }
-    requires picks { All (IsPick (lots_of consumer.now.assignment.items fetched.now)) walk.now.picks.items }
-    ensures { IfOk result (λ t. t ≡ array (map (item_text forms Binary) (seen (lots_of consumer.now.assignment.items fetched.now) walk.now).taken)) }
+    requires pick { IsPick (lots_of consumer.now.assignment.items fetched.now) pick }
+    requires lot { pick.lot < length consumer.now.assignment.items }
+    requires row { HasRow fetched.now pick }
+    ensures { IfOk result (Says (Unread (item_in (lots_of consumer.now.assignment.items fetched.now) pick) 2)) }
 {
-    let lots = Lots {
-        places: consumer.assignment.as_slice(),
-        fetched,
-    };
-    let text = shown_text(alloc, &lots, walk)?;
-    Ok(Text::from_string(text))
+    let places = consumer.assignment.as_slice();
+    let place = &places[pick.lot];
+    let offset = stored_at(fetched, pick).offset.unsigned_abs();
+    unread(
+        alloc,
+        place.topic.as_str(),
+        place.partition.unsigned_abs(),
+        offset,
+        2,
+    )
 }
 
-/// Ends a look with what its walk takes. Its text and its event are made before anything moves.
+fn media_of(format: Format) -> Media
+    ensures { format_in result ≡ Some (format_of format) }
+{
+    match format {
+        Format::Binary => Media::Binary,
+        Format::Json => Media::Json,
+    }
+}
+
+/// The reply of the rows that were taken.
+fn shown(mut text: String, format: Format) -> Result<Reply, AllocError>
+    ensures { IfOk result (λ r. response_in r ≡ Body (Some (format_of format)) (string_bytes text ++ codes "]")) }
+{
+    text.push_str("]")?;
+    Ok(Reply::Body {
+        media: media_of(format),
+        text: Text::from_string(text),
+    })
+}
+
+/// Ends a look with what its walk takes, or by the first row that doesn't read where it took none. Its
+/// reply and its event are made before anything moves.
 fn settle(
     consumer: &mut Consumer,
     alloc: Global,
@@ -134,25 +166,26 @@ fn settle(
     requires sound { IsSound consumer.old }
     requires same { length fetched.now ≡ length consumer.old.assignment.items }
     requires offsets { All HasOffsets fetched.now }
-    ensures ended { IfOk result (λ reply. IsEnded round wait bound (consumer_of consumer.old) (lots_of consumer.old.assignment.items fetched.now) (option_map response_in reply) (consumer_of consumer.new)) }
-    ensures events { IfOk result (λ reply. events.new ≡ events.old ++ Looked round ∷ []) }
+    ensures settled { IfOk result (λ reply. IsSettled round wait bound (consumer_of consumer.old) (lots_of consumer.old.assignment.items fetched.now) events.old events.new (option_map response_in reply) (consumer_of consumer.new)) }
+    ensures looks { IfOk result (λ reply. reply ≡ None → events.new ≡ events.old ++ Looked round ∷ []) }
     ensures waits { IfOk result (λ reply. reply ≡ None → 10 * round < wait) }
     ensures stays { OnErr result ((consumer.new ≡ consumer.old) × (events.new ≡ events.old)) }
     ensures sound { IsSound consumer.new }
 {
     let walk = take_rows(consumer, alloc, bound, fetched)?;
+    if let Some(pick) = walk.lost() {
+        let reply = unread_at(consumer, alloc, fetched, pick)?;
+        return Ok(Some(reply));
+    }
     let last = wait <= 10 * u64::from(round);
     if !walk.is_enough(consumer.settings.min_bytes, last) {
         events.push(Event::Looked(round))?;
         return Ok(None);
     }
-    let text = text_of(consumer, alloc, fetched, &walk)?;
+    let reply = shown(walk.text, consumer.settings.format)?;
     events.push(Event::Looked(round))?;
     move_behind(consumer, fetched, walk.picks.as_slice());
-    Ok(Some(Reply::Body {
-        media: Media::Binary,
-        text,
-    }))
+    Ok(Some(reply))
 }
 
 /// The same, with what is answered where it finds no memory.
@@ -230,26 +263,30 @@ fn at_most(limit: u64, asked: Option<u64>) -> u64
 }
 
 /// One look of a Records call, of the round `round`: it fetches from the positions, and is answered
-/// with what its walk takes, or not yet.
+/// with what its walk takes, or not yet. 40601 where the request doesn't accept the instance's format.
 pub(crate) fn look<L: Link>(
     consumer: &mut Consumer,
     alloc: Global,
     link: &mut L,
     now: u64,
     round: u32,
+    accepts: Accepted,
     timeout: Option<u64>,
     max_bytes: Option<u64>,
 ) -> Outcome
     requires sound { IsSound consumer.old }
     ensures sound { IsSound consumer.new }
-    ensures acts { (advertise : List ℕ) (key : Key) → ActsSo advertise key now round (Records [] timeout max_bytes) (L.stand link.old).tells (L.stand link.old).plain (L.stand link.old).counts (L.stand link.new).counts (consumer_of consumer.old) (L.stand link.old).log (events_in result) (said_in result) (L.stand link.new).log (consumer_of consumer.new) }
-    ensures handed { (L.stand link.old).in_turn → (L.stand link.old).tells → LooksAtGiven now round timeout max_bytes (consumer_of consumer.old) (events_in result) (said_in result) (L.stand link.new).log (consumer_of consumer.new) }
+    ensures acts { (advertise : List ℕ) (key : Key) → ActsSo advertise key now round (Records (formats_in accepts) timeout max_bytes) (L.stand link.old).tells (L.stand link.old).plain (L.stand link.old).counts (L.stand link.new).counts (consumer_of consumer.old) (L.stand link.old).log (events_in result) (said_in result) (L.stand link.new).log (consumer_of consumer.new) }
+    ensures handed { (L.stand link.old).in_turn → (L.stand link.old).tells → LooksAtGiven now round (formats_in accepts) timeout max_bytes (consumer_of consumer.old) (events_in result) (said_in result) (L.stand link.new).log (consumer_of consumer.new) }
     ensures waits { result.reply ≡ None → 10 * round < 2 ^ 32 }
     ensures looks { result.reply ≡ None → EndsInLook (events_in result) round }
 
     ensures consults { Consults (L.stand link.old) (L.stand link.new) }
 {
     consumer.last_use = now;
+    if !allows(accepts, consumer.settings.format) {
+        return Outcome::of_reply(alloc, refused(alloc, 40601));
+    }
     let wait = at_most(u64::from(consumer.settings.timeout_ms), timeout);
     let bound = at_most(MOST_SHOWN, max_bytes);
     let mut events = Items::new(alloc);

@@ -5,8 +5,7 @@ ghost use Rattle.instance.specs.Walk.{HasOffsets, IsOffset, IsPick, item_in, lot
 ghost use Rattle.broker_link.specs.Places.{place_of};
 ghost use Rattle.consumer_state.specs.Views.{IsSound, consumer_of};
 
-use crate::items::stored_at;
-use crate::walk::Pick;
+use crate::walk::{Pick, stored_at};
 use broker_link::{Fetched, Place, Stored};
 use consumer_state::Consumer;
 

@@ -10,10 +10,10 @@ use Rattle.rest_calls.specs.Json.{put_first, all_of}
 abbrev pub behind : {X Y : Type 0} → (X → Y) → (Data → Option Y) → List X → List Value → Option (List Y)
 behind seen reader xs vs = option_map (λ more. map seen xs ++ more) (all_of reader (items_view vs))
 
-abbrev joined : {Y : Type 0} → List Y → Option Y → Option (List Y) → Option (List Y)
+abbrev pub joined : {Y : Type 0} → List Y → Option Y → Option (List Y) → Option (List Y)
 joined before found rest = option_map (λ more. before ++ more) (put_first found rest)
 
-joined_some : {Y : Type 0} (before : List Y) (y : Y) (rest : Option (List Y)) → joined before (Some y) rest ≡ option_map (λ more. (before ++ y ∷ []) ++ more) rest
+pub joined_some : {Y : Type 0} (before : List Y) (y : Y) (rest : Option (List Y)) → joined before (Some y) rest ≡ option_map (λ more. (before ++ y ∷ []) ++ more) rest
 joined_some before y None = refl
 joined_some before y (Some more) = ap (λ l. Some l) (sym (append_assoc before (y ∷ []) more))
 

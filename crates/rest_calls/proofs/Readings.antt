@@ -3,10 +3,8 @@ use Rattle.std.proofs.Common.{◌≡◌, ◌∙◌, ℕ, List, [], ◌∷◌, sy
 use Rattle.serde_json.specs.Data.{Data}
 use Rattle.model.specs.state.Log.{TopicPart}
 use Rattle.model.specs.state.World.{Settings}
-use Rattle.model.specs.state.Entry.{Given}
 use Rattle.http_conn.specs.declared.request.Request.{Request}
 use Rattle.rest_calls.specs.Json.{IsJson}
-use Rattle.rest_calls.specs.Body.{produced_by}
 use Rattle.rest_calls.specs.Create.{created_by}
 use Rattle.rest_calls.specs.Assign.{assigned_by}
 use Rattle.rest_routes.specs.Media.{is_acceptable, is_supported}
@@ -17,7 +15,7 @@ use Rattle.rest_routes.specs.declared.place.TopicAsk.TheVariants.{Produce, Descr
 use Rattle.rest_routes.specs.declared.place.PartitionAsk.TheVariants as partition
 use Rattle.rest_routes.specs.declared.place.Ask.TheVariants.{Delete, Assign, Assignments, Records}
 use Rattle.rest_calls.specs.Views.{key_in}
-use Rattle.rest_calls.specs.Reading.{Read, Reading, ReadingAt, ReadingIn, Unless, ProducedAs, CreatedAs, AssignedAs, produce_read, create_read, assign_read}
+use Rattle.rest_calls.specs.Reading.{Read, Reading, ReadingAt, ReadingIn, Unless, CreatedAs, AssignedAs, create_read, assign_read}
 
 -- a body is one value of JSON, or none
 pub one_value : (body : List ℕ) (x y : Option Data) → IsJson body x → IsJson body y → x ≡ y
@@ -25,9 +23,6 @@ one_value body (Some x) (Some y) is was = sym is.1 ∙ was.1
 one_value body (Some x) None is was = let differs : Some x ≡ None = sym is.1 ∙ was is.0 in cc
 one_value body None (Some y) is was = let differs : None ≡ Some y = sym (is was.0) ∙ was.1 in cc
 one_value body None None is was = refl
-
-one_produced : (to : Option ℕ) (body : List ℕ) (x y : Option (List Given)) → ProducedAs to body x → ProducedAs to body y → x ≡ y
-one_produced to body x y is was = is.2 ∙ ap (produced_by to) (one_value body is.0 was.0 is.1 was.1) ∙ sym was.2
 
 one_assigned : (body : List ℕ) (x y : Option (List TopicPart)) → AssignedAs body x → AssignedAs body y → x ≡ y
 one_assigned body x y is was = is.2 ∙ ap assigned_by (one_value body is.0 was.0 is.1 was.1) ∙ sym was.2
@@ -39,10 +34,10 @@ one_created (b ∷ bs) x y is was = is.2 ∙ ap created_by (one_value (b ∷ bs)
 one_at : (place : Place) (request : Request) (a b : Read) → ReadingAt place request a → ReadingAt place request b → a ≡ b
 one_at Brokers request a b x y = x ∙ sym y
 one_at Topics request a b x y = x ∙ sym y
-one_at (Topic topic Produce) request a b x y = x.2 ∙ ap (produce_read topic) (one_produced None request.body x.0 y.0 x.1 y.1) ∙ sym y.2
+one_at (Topic topic Produce) request a b x y = x ∙ sym y
 one_at (Topic topic Description) request a b x y = x ∙ sym y
 one_at (Topic topic Partitions) request a b x y = x ∙ sym y
-one_at (Partition topic number partition.Produce) request a b x y = x.2 ∙ ap (produce_read topic) (one_produced (Some number) request.body x.0 y.0 x.1 y.1) ∙ sym y.2
+one_at (Partition topic number partition.Produce) request a b x y = x ∙ sym y
 one_at (Partition topic number partition.Description) request a b x y = x ∙ sym y
 one_at (Partition topic number partition.EndOffsets) request a b x y = x ∙ sym y
 one_at (Group group) request a b x y = x.2 ∙ ap (create_read group) (one_created request.body x.0 y.0 x.1 y.1) ∙ sym y.2

@@ -1,10 +1,17 @@
 -- The body of a request to assign partitions: `partitions`, a list of `topic` and `partition` (Confluent REST Proxy API v2, POST /consumers/{group}/instances/{instance}/assignments).
-use Rattle.std.specs.Prelude.{ℕ, ◌&&◌, List, length, Option, Some, None, option_and_then, if◌then◌else◌, nat_le, codes}
+use Rattle.std.specs.Prelude.{ℕ, ◌^◌, ◌&&◌, List, length, Option, Some, None, option_and_then, if◌then◌else◌, nat_le, nat_lt, codes}
 use Rattle.serde_json.specs.Data.{Data}
-use Rattle.serde_json.specs.Find.{get, as_array, as_str}
+use Rattle.serde_json.specs.Find.{get, as_array, as_number, as_str, as_u64}
 use Rattle.model.specs.state.Log.{TopicPart}
 use Rattle.rest_calls.specs.Json.{all_of}
-use Rattle.rest_calls.specs.Body.{partition_of}
+
+-- a partition's number, from 0 to 2147483647
+abbrev pub number_of : Data → Option ℕ
+number_of d = option_and_then (λ n. if nat_lt n (2 ^ 31) then Some n else None) (option_and_then as_u64 (as_number d))
+
+-- the partition that an object names
+abbrev pub partition_of : Data → Option ℕ
+partition_of d = option_and_then number_of (get (codes "partition") d)
 
 -- 1 to 249 bytes
 abbrev pub topic_in : List ℕ → Option (List ℕ)

@@ -6,10 +6,10 @@ use Rattle.std.specs.Str.Parse.{digits_value}
 use Rattle.serde_json.specs.Data.{Data, Num, unsigned, negative, float}
 use Rattle.serde_json.specs.Find.{get, as_number, as_bool, as_null, as_str, as_object}
 use Rattle.model.specs.state.Names.{is_word}
-use Rattle.model.specs.state.World.{Settings, Edge}
+use Rattle.model.specs.state.World.{Settings, Edge, Format}
 use Rattle.model.specs.state.World.Edge.{Start, End}
 use Rattle.rest_calls.specs.declared.create.Bounds.{Bounds}
-use Rattle.model.specs.state.World.Format.{Binary}
+use Rattle.model.specs.state.World.Format.{Binary, Json}
 
 -- a member of the body; null counts as absent
 abbrev pub unless_null : Option Data → Option Data
@@ -34,15 +34,16 @@ abbrev pub name_of : Option Data → Result (List ℕ) ℕ
 name_of None = Ok []
 name_of (Some d) = name_from (as_str d)
 
--- the text is this one
-abbrev pub is_text : List ℕ → Option (List ℕ) → Bool
-is_text text None = false
-is_text text (Some found) = bytes_eq found text
+-- binary or json; avro isn't built
+abbrev pub format_named : List ℕ → Option Format
+format_named text =
+    if bytes_eq text (codes "binary") then Some Binary else
+    if bytes_eq text (codes "json") then Some Json else None
 
--- the form is the binary one
-unfoldable pub is_binary : Option Data → Bool
-is_binary None = true
-is_binary (Some d) = is_text (codes "binary") (as_str d)
+-- the format in which keys and values are shown: binary, if nothing is said
+unfoldable pub format_in : Option Data → Option Format
+format_in None = Some Binary
+format_in (Some d) = option_and_then format_named (as_str d)
 
 -- earliest or latest
 abbrev pub edge_in : List ℕ → Option Edge
@@ -102,16 +103,16 @@ abbrev pub wait_bounds : Bounds
 wait_bounds = record { least = 0; most = 30000; usual = 1000 }
 
 -- the settings, where each of them reads
-abbrev pub settings_from : (binary boolean : Bool) → Option Edge → (bytes wait : Option ℕ) → Option Settings
-settings_from true true (Some reset) (Some bytes) (Some wait) =
-    Some (record { format = Binary; reset = reset; auto_commit = false; min_bytes = bytes; timeout_ms = wait })
+abbrev pub settings_from : Option Format → (boolean : Bool) → Option Edge → (bytes wait : Option ℕ) → Option Settings
+settings_from (Some format) true (Some reset) (Some bytes) (Some wait) =
+    Some (record { format = format; reset = reset; auto_commit = false; min_bytes = bytes; timeout_ms = wait })
 settings_from _ _ _ _ _ = None
 
 -- the settings of a body
 unfoldable pub settings_in : Data → Option Settings
 settings_in d =
     settings_from
-    (is_binary (member_of (codes "format") d))
+    (format_in (member_of (codes "format") d))
     (is_boolean (member_of (codes "auto.commit.enable") d))
     (reset_of (member_of (codes "auto.offset.reset") d))
     (number_of bytes_bounds (member_of (codes "fetch.min.bytes") d))

@@ -1,10 +1,10 @@
--- What a request asks for, or why it is refused: questions on brokers, topics and partitions, a produce of binary records, and the calls
--- of one consumer (Confluent REST Proxy API v2).
-use Rattle.std.specs.Prelude.{◌≡◌, ℕ, pos, ◌⊎◌, List, [], ◌∷◌, Option, Some, None, Result, Ok, Err, Bool, true, false}
+-- What a request asks for, or why it is refused: questions on brokers, topics and partitions, a produce of records in the binary or the
+-- JSON format, and the calls of one consumer (Confluent REST Proxy API v2).
+use Rattle.std.specs.Prelude.{◌≡◌, ℕ, ◌⊎◌, List, [], ◌∷◌, Option, Some, None, Result, Ok, Err, Bool, true, false}
 use Rattle.serde_json.specs.Data.{Data}
 use Rattle.model.specs.state.Log.{TopicPart}
 use Rattle.model.specs.state.World.{Key, Settings}
-use Rattle.model.specs.state.Entry.{Call, Given, Question}
+use Rattle.model.specs.state.Entry.{Call, Given}
 use Rattle.model.specs.state.Entry.Call.{Produce, Ask, Of}
 use Rattle.model.specs.state.Entry.Question.{Brokers as AllBrokers, Topics as AllTopics, OneTopic, Parts, OnePart, EndOffsets as Edges}
 use Rattle.model.specs.state.Entry.Act.{Create as Creates, Delete as Deletes, Assign as Assigns, Assignments as AsksAssignments, Records as AsksRecords}
@@ -12,7 +12,7 @@ use Rattle.http_conn.specs.declared.request.Request.{Request}
 use Rattle.rest_codes.specs.declared.response.Reply.{Reply}
 use Rattle.rest_codes.specs.declared.response.Reply.TheVariants.{Want, NoMethod}
 use Rattle.rest_codes.specs.Errors.{refusal_of}
-use Rattle.rest_calls.specs.Views.{key_in}
+use Rattle.rest_calls.specs.Views.{formats_in, key_in}
 use Rattle.rest_routes.specs.Place.{Sent, Nowhere, Lacks, At, sent_of}
 use Rattle.rest_routes.specs.declared.place.Place.{Place}
 use Rattle.rest_routes.specs.declared.place.Place.TheVariants.{Brokers, Topics, Topic, Partition, Group, Instance}
@@ -20,10 +20,12 @@ use Rattle.rest_routes.specs.declared.place.TopicAsk.TheVariants as topic
 use Rattle.rest_routes.specs.declared.place.PartitionAsk.TheVariants as partition
 use Rattle.rest_calls.specs.Json.{IsJson}
 use Rattle.rest_calls.specs.Body.{produced_by}
+use Rattle.forms.specs.declared.format.Format.{Format}
 use Rattle.rest_calls.specs.Create.{created_by, usual_settings}
 use Rattle.rest_calls.specs.Assign.{assigned_by}
-use Rattle.rest_routes.specs.Media.{is_acceptable, is_supported}
+use Rattle.rest_routes.specs.Media.{accepted_formats, format_in, is_acceptable, is_supported}
 use Rattle.rest_routes.specs.Query.{limits_of}
+use Rattle.rest_routes.specs.declared.media.Accepted.{Accepted}
 use Rattle.rest_routes.specs.declared.query.Limits.{Limits}
 use Rattle.rest_routes.specs.declared.place.Ask.TheVariants.{Delete, Assign, Assignments, Records}
 
@@ -36,10 +38,6 @@ pub data Read : Type 0 where
 
 -- ---- what bodies read as
 
--- the body has these records for a partition that the request is sent to, or for none, or doesn't read
-abbrev pub ProducedAs : Option ℕ → List ℕ → Option (List Given) → Type 0
-ProducedAs to body records = (value : Option Data) × IsJson body value × (records ≡ produced_by to value)
-
 -- the body lists these parts, or doesn't read
 abbrev pub AssignedAs : List ℕ → Option (List TopicPart) → Type 0
 AssignedAs body parts = (value : Option Data) × IsJson body value × (parts ≡ assigned_by value)
@@ -48,6 +46,11 @@ AssignedAs body parts = (value : Option Data) × IsJson body value × (parts ≡
 abbrev pub CreatedAs : List ℕ → Result (List ℕ × Settings) ℕ → Type 0
 CreatedAs [] made = made ≡ Ok ([], usual_settings)
 CreatedAs (b ∷ bs) made = (value : Option Data) × IsJson (b ∷ bs) value × (made ≡ created_by value)
+
+-- the records of a body, in the format that its type names
+abbrev pub records_in : Option Format → (to : Option ℕ) → List ℕ → Option (List Given)
+records_in None to body = None
+records_in (Some format) to body = produced_by format to body
 
 -- ---- what requests read as
 
@@ -70,26 +73,26 @@ abbrev pub assign_read : Key → Option (List TopicPart) → Read
 assign_read key (Some parts) = Calls (Of key (Assigns parts))
 assign_read key None = Refuses 422
 
--- a Records with its limits, if they read
-abbrev pub records_read : Key → Option Limits → Read
-records_read key (Some limits) = Calls (Of key (AsksRecords [] limits.timeout limits.max_bytes))
-records_read key None = Refuses 422
+-- a Records with the formats that it accepts and its limits, if they read
+abbrev pub records_read : Key → Accepted → Option Limits → Read
+records_read key accepts (Some limits) = Calls (Of key (AsksRecords (formats_in accepts) limits.timeout limits.max_bytes))
+records_read key accepts None = Refuses 422
 
 -- what a request that is sent to a place reads as
 abbrev pub ReadingAt : Place → Request → Read → Type 0
 ReadingAt Brokers request read = read ≡ Calls (Ask AllBrokers)
 ReadingAt Topics request read = read ≡ Calls (Ask AllTopics)
-ReadingAt (Topic name topic.Produce) request read = (records : Option (List Given)) × ProducedAs None request.body records × (read ≡ produce_read name records)
+ReadingAt (Topic name topic.Produce) request read = read ≡ produce_read name (records_in (format_in request.content_type) None request.body)
 ReadingAt (Topic name topic.Description) request read = read ≡ Calls (Ask (OneTopic name))
 ReadingAt (Topic name topic.Partitions) request read = read ≡ Calls (Ask (Parts name))
-ReadingAt (Partition name number partition.Produce) request read = (records : Option (List Given)) × ProducedAs (Some number) request.body records × (read ≡ produce_read name records)
+ReadingAt (Partition name number partition.Produce) request read = read ≡ produce_read name (records_in (format_in request.content_type) (Some number) request.body)
 ReadingAt (Partition name number partition.Description) request read = read ≡ Calls (Ask (OnePart (record { topic = name; partition = number })))
 ReadingAt (Partition name number partition.EndOffsets) request read = read ≡ Calls (Ask (Edges (record { topic = name; partition = number })))
 ReadingAt (Group group) request read = (made : Result (List ℕ × Settings) ℕ) × CreatedAs request.body made × (read ≡ create_read group made)
 ReadingAt (Instance group name Delete) request read = read ≡ Calls (Of (key_in group name) Deletes)
 ReadingAt (Instance group name Assign) request read = (parts : Option (List TopicPart)) × AssignedAs request.body parts × (read ≡ assign_read (key_in group name) parts)
 ReadingAt (Instance group name Assignments) request read = read ≡ Calls (Of (key_in group name) AsksAssignments)
-ReadingAt (Instance group name Records) request read = read ≡ records_read (key_in group name) (limits_of request.query)
+ReadingAt (Instance group name Records) request read = read ≡ records_read (key_in group name) (accepted_formats request.accept) (limits_of request.query)
 
 -- what is said where this is so, and a refusal with the code where it isn't
 abbrev pub Unless : Bool → ℕ → (Read → Type 0) → Read → Type 0

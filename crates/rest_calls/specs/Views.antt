@@ -2,10 +2,13 @@
 use Rattle.std.specs.Prelude.{◌≡◌, ◌<◌, ◌^◌, ◌+◌, ◌-◌, min, ℕ, ℤ, pos, nat_abs, Bool, true, false, cond, codes, decimal, List, [], ◌∷◌, ◌++◌, length, map, All, Option, Some, None, option_map, IfSome}
 use Rattle.model.specs.state.Entry as model
 use Rattle.model.specs.state.World as world
-use Rattle.model.specs.state.World.Format.{Binary}
+use Rattle.model.specs.state.World.{Format}
+use Rattle.model.specs.state.World.Format.{Binary, Json, Avro}
 use Rattle.model.specs.state.Entry.Act.{Create as Creates, Delete as Deletes, Assign as Assigns, Assignments as AsksAssignments, Records as AsksRecords}
 use Rattle.model.specs.state.Entry.Call.{Produce as Asks, Ask as Questions, Of}
 use Rattle.broker_link.specs.Fetching.{at_of, edge_view}
+use Rattle.forms.specs.Formats.{format_of}
+use Rattle.rest_routes.specs.declared.media.Accepted.{Accepted}
 use Rattle.rest_calls.specs.Questions.{question_of}
 use Rattle.rest_calls.specs.declared.call.Payload.{Payload}
 use Rattle.rest_calls.specs.declared.call.Payload.TheVariants.{Null, Ready}
@@ -33,9 +36,9 @@ givens_of batch = map given_of batch.rows
 abbrev pub batch_of : Batch → model.Batch
 batch_of batch = record { key_id = None; value_id = None; records = givens_of batch }
 
--- The settings of a new instance: its form is the binary one, and nothing is committed by itself yet.
+-- The settings of a new instance; nothing is committed by itself yet.
 abbrev pub settings_of : Settings → world.Settings
-settings_of s = record { format = Binary; reset = edge_view s.reset; auto_commit = false; min_bytes = s.min_bytes; timeout_ms = s.timeout_ms }
+settings_of s = record { format = format_of s.format; reset = edge_view s.reset; auto_commit = false; min_bytes = s.min_bytes; timeout_ms = s.timeout_ms }
 
 -- a consumer's key
 abbrev pub key_in : List ℕ → List ℕ → world.Key
@@ -46,6 +49,10 @@ abbrev pub name_in : Option (List ℕ) → List ℕ
 name_in None = []
 name_in (Some name) = name
 
+-- the formats that a request names, if it names any
+abbrev pub formats_in : Accepted → List Format
+formats_in accepts = cond accepts.binary (Binary ∷ []) [] ++ (cond accepts.json (Json ∷ []) [] ++ cond accepts.avro (Avro ∷ []) [])
+
 -- What a call asks. A Create without a name has an empty one here, which no instance has.
 abbrev pub asked_of : Call → model.Call
 asked_of (Produce topic batch) = Asks topic (batch_of batch)
@@ -54,7 +61,7 @@ asked_of (Create group name settings) = Of (key_in group (name_in name)) (Create
 asked_of (Delete group instance) = Of (key_in group instance) Deletes
 asked_of (Assign group instance parts) = Of (key_in group instance) (Assigns (map at_of parts))
 asked_of (Assignments group instance) = Of (key_in group instance) AsksAssignments
-asked_of (Records group instance timeout bound) = Of (key_in group instance) (AsksRecords [] timeout bound)
+asked_of (Records group instance accepts timeout bound) = Of (key_in group instance) (AsksRecords (formats_in accepts) timeout bound)
 
 -- no byte
 abbrev pub is_empty : List ℕ → Bool

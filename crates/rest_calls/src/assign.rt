@@ -1,19 +1,39 @@
-ghost use Rattle.std.specs.Prelude.{◌≡◌, map, option_map, option_and_then, codes, length};
+ghost use Rattle.std.specs.Prelude.{◌≡◌, map, option_map, option_and_then, codes, length, nat_abs, IfSome};
 ghost use Rattle.serde_json.specs.View.{view, items_view};
 ghost use Rattle.serde_json.specs.Find.{get, as_array};
 ghost use Rattle.broker_link.specs.Fetching.{at_of};
 ghost use Rattle.rest_calls.specs.Json.{all_of};
-ghost use Rattle.rest_calls.specs.Assign.{topic_in, topic_of, part_of, parts_of, assigned_by};
+ghost use Rattle.rest_calls.specs.Views.{IsNumber};
+ghost use Rattle.rest_calls.specs.Assign.{number_of, partition_of, topic_in, topic_of, part_of, parts_of, assigned_by};
 ghost use Rattle.rest_calls.specs.Reading.{AssignedAs};
 ghost use Rattle.rest_calls.specs.Reads.{Reads, ReadsAs, parts_view};
 
-use crate::body::partition_of;
 use crate::unread::Unread;
 use crate::value::json_of;
 use broker_link::TopicPart;
 use gate_io::{Items, Text};
 use serde_json::Value;
 use std::alloc::{AllocError, Global};
+
+/// A partition's number.
+fn number_of(value: &Value) -> Option<i32>
+    ensures value { option_map nat_abs result ≡ number_of (view value.now) }
+    ensures fits { IfSome result IsNumber }
+{
+    let number = value.as_u64()?;
+    if number < 1 << 31 {
+        Some(number as i32)
+    } else {
+        None
+    }
+}
+
+fn partition_of(object: &Value) -> Option<i32>
+    ensures value { option_map nat_abs result ≡ partition_of (view object.now) }
+    ensures fits { IfSome result IsNumber }
+{
+    number_of(object.get("partition")?)
+}
 
 /// A topic's name in a body has 1 to 249 bytes.
 fn topic_in(text: &str) -> Option<&str>

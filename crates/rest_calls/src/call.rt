@@ -1,6 +1,13 @@
+ghost use Rattle.std.specs.Prelude.{◌≡◌};
+ghost use Rattle.forms.specs.Formats.{format_of};
+ghost use Rattle.model.specs.step.Look.{allows};
+ghost use Rattle.rest_calls.specs.Views.{formats_in};
+
 use crate::Question;
 use broker_link::{Edge, TopicPart};
+use forms::Format;
 use gate_io::{Items, Text};
+use rest_routes::Accepted;
 
 /// A key or value.
 #[derive(Debug, Drop)]
@@ -24,18 +31,20 @@ pub struct Batch {
     pub rows: Items<Row>,
 }
 
-/// What a new consumer instance is asked to be: where it begins in a partition without a committed
-/// offset, from how many key and value bytes on a reply is sent at once, and how long a reply may
-/// wait for them, in milliseconds.
+/// What a new consumer instance is asked to be: in which format it shows keys and values, where it
+/// begins in a partition without a committed offset, from how many key and value bytes on a reply is
+/// sent at once, and how long a reply may wait for them, in milliseconds.
 #[derive(Clone, Copy, Debug, PartialEq, Eq)]
 pub struct Settings {
+    pub format: Format,
     pub reset: Edge,
     pub min_bytes: u32,
     pub timeout_ms: u32,
 }
 
 /// What a client asks of the gateway. A Create without a name gets one before it is answered.
-/// `timeout`, in milliseconds, and `max_bytes` are those of the query, where it gives them.
+/// `accepts` are the formats that the request accepts. `timeout`, in milliseconds, and `max_bytes` are
+/// those of the query, where it gives them.
 #[derive(Debug, Drop)]
 pub enum Call {
     Produce {
@@ -64,7 +73,21 @@ pub enum Call {
     Records {
         group: Text,
         instance: Text,
+        accepts: Accepted,
         timeout: Option<u64>,
         max_bytes: Option<u64>,
     },
+}
+
+/// A reply in the format is accepted: it is named, or no format is.
+pub fn allows(accepts: Accepted, format: Format) -> bool
+    ensures { result ≡ allows (formats_in accepts) (format_of format) }
+{
+    if !accepts.binary && !accepts.json && !accepts.avro {
+        return true;
+    }
+    match format {
+        Format::Binary => accepts.binary,
+        Format::Json => accepts.json,
+    }
 }

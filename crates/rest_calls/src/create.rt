@@ -3,15 +3,17 @@ ghost use Rattle.std.specs.List.{list_all};
 ghost use Rattle.serde_json.specs.View.{view};
 ghost use Rattle.serde_json.specs.Find.{as_number, as_str};
 ghost use Rattle.rest_calls.specs.Views.{name_in, settings_of};
-ghost use Rattle.rest_calls.specs.Create.{member_of, is_given_name, name_of, is_text, is_binary, edge_in, reset_of, is_boolean, is_truth, within, number_in, number_at, number_of, settings_in, usual_settings, created_by};
+ghost use Rattle.rest_calls.specs.Create.{member_of, is_given_name, name_of, format_in, format_named, edge_in, reset_of, is_boolean, is_truth, within, number_in, number_at, number_of, settings_in, usual_settings, created_by};
 ghost use Rattle.rest_calls.specs.Reading.{CreatedAs};
 ghost use Rattle.rest_calls.specs.Reads.{Gives, created_view};
 ghost use Rattle.broker_link.specs.Fetching.{edge_view};
+ghost use Rattle.forms.specs.Formats.{format_of};
 
 use crate::call::Settings;
 use crate::unread::Unread;
 use crate::value::json_of;
 use broker_link::Edge;
+use forms::Format;
 use gate_io::Text;
 use rest_routes::{are_digits, number_in as digit_number};
 use serde_json::Value;
@@ -86,17 +88,27 @@ fn name_of(alloc: Global, value: Option<&Value>) -> Result<Option<Text>, Unread>
     }
 }
 
-#[tactic(auto, unfolding(crate::specs::Create::is_binary))]
-fn is_binary(value: Option<&Value>) -> bool
-    ensures { result ≡ is_binary (option_map (λ v. view v.now) value.entry) }
+fn format_named(text: &str) -> Option<Format>
+    ensures { option_map format_of result ≡ format_named text.now }
+{
+    if text == "binary" {
+        return Some(Format::Binary);
+    }
+    if text == "json" {
+        return Some(Format::Json);
+    }
+    None
+}
+
+/// The format in which an instance shows keys and values, if it is built.
+#[tactic(auto, unfolding(crate::specs::Create::format_in))]
+fn format_in(value: Option<&Value>) -> Option<Format>
+    ensures { option_map format_of result ≡ format_in (option_map (λ v. view v.now) value.entry) }
 {
     let Some(value) = value else {
-        return true;
+        return Some(Format::Binary);
     };
-    match value.as_str() {
-        Some(text) => text == "binary",
-        None => false,
-    }
+    format_named(value.as_str()?)
 }
 
 fn edge_in(text: &str) -> Option<Edge>
@@ -204,9 +216,7 @@ const WAIT_MS: Bounds = Bounds {
 fn settings_in(object: &Value) -> Option<Settings>
     ensures { option_map settings_of result ≡ settings_in (view object.now) }
 {
-    if !is_binary(member_of(object, "format")) {
-        return None;
-    }
+    let format = format_in(member_of(object, "format"))?;
     if !is_boolean(member_of(object, "auto.commit.enable")) {
         return None;
     }
@@ -214,6 +224,7 @@ fn settings_in(object: &Value) -> Option<Settings>
     let min_bytes = number_of(BYTES, member_of(object, "fetch.min.bytes"))?;
     let timeout_ms = number_of(WAIT_MS, member_of(object, "consumer.request.timeout.ms"))?;
     Some(Settings {
+        format,
         reset,
         min_bytes,
         timeout_ms,
@@ -241,6 +252,7 @@ fn usual() -> Created
     Created {
         name: None,
         settings: Settings {
+            format: Format::Binary,
             reset: Edge::End,
             min_bytes: BYTES.usual,
             timeout_ms: WAIT_MS.usual,

@@ -24,11 +24,13 @@ fn refused(alloc: Global, code: u32) -> Reply
     }
 }
 
-/// Reads a whole request as a call. An error is the reply that refuses it, by the first of these
-/// that is so: 404 where its path is none of the gateway's or the place isn't built, 405 where the path
-/// hasn't the method, 406 where it doesn't accept the type of the reply, 415 where its body is of
-/// another type or encoded, 422 where its body or its query doesn't read, 42204 where a new instance
-/// can't have the name or the settings that the body gives it.
+/// Reads a whole request as a call. The keys and values of a produce are read in the format that its
+/// content type names, binary or JSON, and a read of records accepts the formats that its Accept names.
+/// An error is the reply that refuses it, by the first of these that is so: 404 where its path is none
+/// of the gateway's or the place isn't built, 405 where the path hasn't the method, 406 where it doesn't
+/// accept the type of the reply, 415 where its body is of another type or encoded, 422 where its body or
+/// its query doesn't read, 42204 where a new instance can't have the name or the settings that the body
+/// gives it.
 pub fn call_of(alloc: Global, routes: &Routes, request: &Request) -> Result<Call, Reply>
     ensures reads { IfOk result (λ call. Reading request.now (Calls (asked_of call))) }
     ensures records { IfOk result HasRecords }

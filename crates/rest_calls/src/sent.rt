@@ -1,6 +1,8 @@
-ghost use Rattle.std.specs.Prelude.{◌≡◌, IfOk};
-ghost use Rattle.rest_calls.specs.Reading.{ReadingAt};
-ghost use Rattle.rest_calls.specs.Reads.{GivesCall, IsWhole};
+ghost use Rattle.std.specs.Prelude.{◌≡◌, ◌<◌, ◌^◌, All, IfOk, IfSome, length, nat_abs, option_map};
+ghost use Rattle.rest_calls.specs.Reading.{ReadingAt, records_in};
+ghost use Rattle.rest_calls.specs.Reads.{GivesCall, IsWhole, Reads};
+ghost use Rattle.rest_calls.specs.Views.{givens_of, IsNumber, PartitionFits};
+ghost use Rattle.rest_routes.specs.Media.{format_in};
 ghost use Rattle.rest_routes.specs.declared.place.Place.TheVariants as place;
 ghost use Rattle.rest_routes.specs.declared.place.TopicAsk.TheVariants as topic_ask;
 ghost use Rattle.rest_routes.specs.declared.place.PartitionAsk.TheVariants as partition_ask;
@@ -8,21 +10,37 @@ ghost use Rattle.rest_routes.specs.declared.place.Ask.TheVariants as ask;
 
 use crate::assign::read_parts;
 use crate::body::read_body;
-use crate::call::Call;
+use crate::call::{Batch, Call};
 use crate::create::{Created, read_create};
 use crate::question::Question;
 use crate::unread::Unread;
 use broker_link::TopicPart;
 use gate_io::Text;
 use http_conn::Request;
-use rest_routes::{Ask, PartitionAsk, PartitionNumber, Place, TopicAsk, limits_of};
+use rest_routes::{
+    Ask, PartitionAsk, PartitionNumber, Place, TopicAsk, accepted_formats, format_in, limits_of,
+};
 use std::alloc::{AllocError, Global};
+
+/// The records of a body, in the format that its type names.
+fn records_in(alloc: Global, to: Option<i32>, request: &Request) -> Result<Batch, Unread>
+    requires { IfSome to IsNumber }
+    ensures reads { Reads givens_of result (records_in (format_in request.now.content_type) (option_map nat_abs to) request.now.body) }
+    ensures some { IfOk result (λ batch. 0 < length batch.rows) }
+    ensures few { IfOk result (λ batch. length batch.rows < 2 ^ 63) }
+    ensures fit { IfOk result (λ batch. All PartitionFits batch.rows) }
+{
+    match format_in(&request.content_type) {
+        Some(format) => read_body(alloc, format, to, request.body.as_slice()),
+        None => Err(Unread::Unreadable),
+    }
+}
 
 fn produce(alloc: Global, topic: Text, request: &Request) -> Result<Call, Unread>
     ensures reads { GivesCall result (ReadingAt (place.Topic topic topic_ask.Produce) request.now) }
     ensures whole { IfOk result IsWhole }
 {
-    match read_body(alloc, None, request.body.as_slice()) {
+    match records_in(alloc, None, request) {
         Ok(batch) => Ok(Call::Produce { topic, batch }),
         Err(e) => Err(e),
     }
@@ -38,7 +56,7 @@ fn produce_to(
     ensures reads { GivesCall result (ReadingAt (place.Partition topic number partition_ask.Produce) request.now) }
     ensures whole { IfOk result IsWhole }
 {
-    match read_body(alloc, Some(number.value()), request.body.as_slice()) {
+    match records_in(alloc, Some(number.value()), request) {
         Ok(batch) => Ok(Call::Produce { topic, batch }),
         Err(e) => Err(e),
     }
@@ -82,6 +100,7 @@ fn records(alloc: Global, group: Text, instance: Text, request: &Request) -> Res
         Ok(Some(limits)) => Ok(Call::Records {
             group,
             instance,
+            accepts: accepted_formats(&request.accept),
             timeout: limits.timeout,
             max_bytes: limits.max_bytes,
         }),

@@ -4,14 +4,15 @@ use Rattle.std.specs.Prelude.{◌==◌, ◌⊎◌}
 use Rattle.std.specs.List.{list_any}
 use Rattle.std.proofs.lemmas.Bool.{eqb-true}
 use Rattle.model.specs.texts.Bodies.{is_retriable}
-use Rattle.model.specs.state.Entry.Reply.{Refused, Broker}
+use Rattle.model.specs.state.Log.{Row}
+use Rattle.model.specs.state.Entry.Reply.{Refused, Broker, Unread}
 use Rattle.model.specs.texts.Texts as texts
 use Rattle.rest_codes.specs.Errors as errors
 use Rattle.rest_codes.specs.Response.{error_text}
 use Rattle.rest_codes.specs.declared.response.Reply.{Reply}
 use Rattle.rest_codes.specs.declared.response.Reply.TheVariants as reply
 use Rattle.rest_calls.specs.Responses.{response_in}
-use Rattle.rest_replies.specs.Failure.{Says, broker_message, broker_number, is_refusal_code}
+use Rattle.rest_replies.specs.Failure.{Says, broker_message, broker_number, is_refusal_code, unread_message}
 
 -- an error reply is written as the model writes it
 pub error_is : (code : ℕ) (text : List ℕ) → response_in (reply.Error code text) ≡ texts.error_text code text
@@ -70,3 +71,9 @@ says_broker code number text number_is text_is = λ advertise forms call. error_
     go : (b : Bool) → is_retriable code ≡ b → texts.error_text number text ≡ texts.broker_text code
     go true e = rw (number_is, text_is, e) refl
     go false e = rw (number_is, text_is, e) refl
+
+-- the refusal by a record that doesn't read
+pub says_unread : (topic : List ℕ) (partition offset reason : ℕ) (row : Row) (text : List ℕ) → row.offset ≡ offset → text ≡ unread_message topic partition offset reason
+    → Says (Unread (record { at = record { topic = topic; partition = partition }; row = row }) reason) (reply.Error 50002 text)
+unfolding unread_message
+says_unread topic partition offset reason row text offset_is text_is = λ advertise forms call. error_is 50002 text ∙ rw (text_is, sym offset_is) refl

@@ -1,5 +1,5 @@
 -- What a reply says, and the codes by which a call of a consumer is refused (Confluent REST Proxy API v2, consumers).
-use Rattle.std.specs.Prelude.{ℕ, ℤ, ◌≡◌, ◌⊎◌, ◌==◌, ◌++◌, Bool, cond, codes, List, [], ◌∷◌}
+use Rattle.std.specs.Prelude.{ℕ, ℤ, ◌≡◌, ◌⊎◌, ◌==◌, ◌++◌, Bool, cond, codes, decimal, List, [], ◌∷◌}
 use Rattle.std.specs.Fmt.{signed_decimal}
 use Rattle.std.specs.List.{list_any}
 use Rattle.model.specs.state.Forms.{Forms}
@@ -30,3 +30,8 @@ broker_number code = cond (is_retriable code) 50003 50002
 unfoldable pub broker_message : ℤ → List ℕ
 broker_message code =
     cond (is_retriable code) (codes "Kafka retriable error: broker code " ++ (signed_decimal code ++ codes ".")) (codes "Kafka error: broker code " ++ (signed_decimal code ++ codes "."))
+
+-- the message of a record that doesn't read
+unfoldable pub unread_message : (topic : List ℕ) → (partition offset reason : ℕ) → List ℕ
+unread_message topic partition offset reason =
+    codes "Record does not read: topic " ++ (topic ++ (codes ", partition " ++ (decimal partition ++ (codes ", offset " ++ (decimal offset ++ (codes ", reason " ++ (decimal reason ++ codes ".")))))))

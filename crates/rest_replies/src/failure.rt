@@ -1,9 +1,10 @@
 ghost use Rattle.std.specs.Prelude.{◌≡◌, ◌⊎◌, IfOk, ℕ, ℤ, List, string_bytes, true};
 ghost use Rattle.model.specs.texts.Bodies.{is_retriable};
-ghost use Rattle.model.specs.state.Entry.Reply.{Refused, Broker, LinkFault};
+ghost use Rattle.model.specs.state.Log.{Row};
+ghost use Rattle.model.specs.state.Entry.Reply.{Refused, Broker, LinkFault, Unread};
 ghost use Rattle.broker_link.specs.Replies.{link_reply};
 ghost use Rattle.rest_codes.specs.declared.response.Reply.TheVariants.{Want as WantReply};
-ghost use Rattle.rest_replies.specs.Failure.{SaysOrWant, broker_message, broker_number, is_refusal_code};
+ghost use Rattle.rest_replies.specs.Failure.{Says, SaysOrWant, broker_message, broker_number, is_refusal_code, unread_message};
 
 use broker_link::LinkNo;
 use gate_io::{Text, Want};
@@ -75,4 +76,37 @@ pub fn link_failure(alloc: Global, e: LinkNo) -> Reply
         LinkNo::Refused(code) => broker_refusal(alloc, code),
         LinkNo::Want => Reply::Want,
     }
+}
+
+#[tactic(auto, unfolding(crate::specs::Failure::unread_message))]
+fn unread_message(
+    alloc: Global,
+    topic: &str,
+    partition: u32,
+    offset: u64,
+    reason: u8,
+) -> Result<String, AllocError>
+    ensures { IfOk result (λ s. string_bytes s ≡ unread_message topic.now partition offset reason) }
+{
+    format!(in alloc;
+        "Record does not read: topic {topic}, partition {partition}, offset {offset}, reason {reason}."
+    )
+}
+
+/// The refusal of a Records call whose first row doesn't read: where the row stands, and why it doesn't.
+/// 2 says that its key or its value isn't a JSON text, nested at most 127 levels deep.
+pub fn unread(
+    alloc: Global,
+    topic: &str,
+    partition: u32,
+    offset: u64,
+    reason: u8,
+) -> Result<Reply, AllocError>
+    ensures { IfOk result (λ r. (row : Row) → row.offset ≡ offset → Says (Unread (record { at = record { topic = topic.now; partition = partition }; row = row }) reason) r) }
+{
+    let text = unread_message(alloc, topic, partition, offset, reason)?;
+    Ok(Reply::Error {
+        code: 50002,
+        text: Text::from_string(text),
+    })
 }

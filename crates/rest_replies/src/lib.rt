@@ -12,7 +12,7 @@ mod topics;
 
 pub use answer::{ProduceNo, Told};
 pub use creation::made;
-pub use failure::{link_failure, refused};
+pub use failure::{link_failure, refused, unread};
 pub use found::{AskNo, Found};
 pub use listing::listed;
 pub use offsets::reply_to;

@@ -1,41 +1,55 @@
-ghost use Rattle.std.specs.Prelude.{◌≡◌, ◌++◌, List, ℕ, codes, nat_abs, string_bytes, OnOk};
+ghost use Rattle.std.specs.Prelude.{◌≡◌, ◌++◌, List, ℕ, nat_abs, string_bytes, OnOk};
 ghost use Rattle.json.specs.Print.{quoted};
-ghost use Rattle.model.specs.texts.Bodies.{item_text};
-ghost use Rattle.model.specs.state.World.Format.{Binary};
+ghost use Rattle.forms.specs.Formats.{format_of};
+ghost use Rattle.forms.specs.Shown.{ShowsSo};
 ghost use Rattle.broker_link.specs.Fetching.{row_of};
-ghost use Rattle.rest_replies.specs.Forms.{forms};
-ghost use Rattle.rest_replies.specs.Row.{bytes_text, front_text, place_text};
+ghost use Rattle.rest_replies.specs.Row.{FrontSo, RowSo, opening_text, place_text};
 
-use base64::engine::general_purpose::STANDARD;
 use broker_link::Stored;
+use forms::{FormNo, Format, put_shown};
 use gate_io::Items;
 use itoa::Buffer;
-use std::alloc::AllocError;
+use std::alloc::{AllocError, Global};
 
-#[tactic(auto, unfolding(crate::specs::Row::bytes_text))]
-fn put_bytes(text: &mut String, bytes: &Option<Items<u8>>) -> Result<(), AllocError>
-    ensures { OnOk result (string_bytes text.new ≡ string_bytes text.old ++ bytes_text bytes.now) }
+#[tactic(auto, unfolding(crate::specs::Row::opening_text))]
+fn put_opening(text: &mut String, first: bool) -> Result<(), AllocError>
+    ensures { OnOk result (string_bytes text.new ≡ string_bytes text.old ++ opening_text first) }
 {
-    match bytes {
-        None => text.push_str("null"),
-        Some(bytes) => {
-            text.push_str("\"")?;
-            STANDARD.encode_string(bytes.as_slice(), text)?;
-            text.push_str("\"")
-        }
+    if first {
+        text.push_str("{\"topic\":")
+    } else {
+        text.push_str(",{\"topic\":")
     }
 }
 
-#[tactic(auto, unfolding(crate::specs::Row::front_text))]
-fn put_front(text: &mut String, topic: &str, stored: &Stored) -> Result<(), AllocError>
-    ensures { OnOk result (string_bytes text.new ≡ string_bytes text.old ++ front_text topic.now stored.now.key stored.now.value) }
+fn put_stored(
+    alloc: Global,
+    text: &mut String,
+    format: Format,
+    stored: &Option<Items<u8>>,
+) -> Result<(), FormNo>
+    ensures { ShowsSo format stored.now (string_bytes text.old) (string_bytes text.new) result }
 {
-    text.push_str("{\"topic\":")?;
+    match stored {
+        None => put_shown(alloc, text, format, None),
+        Some(bytes) => put_shown(alloc, text, format, Some(bytes.as_slice())),
+    }
+}
+
+fn put_front(
+    alloc: Global,
+    text: &mut String,
+    topic: &str,
+    format: Format,
+    stored: &Stored,
+) -> Result<(), FormNo>
+    ensures { FrontSo format topic.now stored.now.key stored.now.value (string_bytes text.old) (string_bytes text.new) result }
+{
     text.push_str(topic)?;
     text.push_str(",\"key\":")?;
-    put_bytes(text, &stored.key)?;
+    put_stored(alloc, text, format, &stored.key)?;
     text.push_str(",\"value\":")?;
-    put_bytes(text, &stored.value)
+    put_stored(alloc, text, format, &stored.value)
 }
 
 #[tactic(auto, unfolding(crate::specs::Row::place_text))]
@@ -51,28 +65,29 @@ fn put_place(text: &mut String, partition: u32, offset: u64) -> Result<(), Alloc
     Ok(())
 }
 
-fn put_texts(
-    text: &mut String,
-    topic: &str,
-    partition: i32,
-    stored: &Stored,
-) -> Result<(), AllocError>
-    ensures { OnOk result (string_bytes text.new ≡ string_bytes text.old
-        ++ (front_text topic.now stored.now.key stored.now.value ++ place_text (nat_abs partition) (nat_abs stored.now.offset))) }
-{
-    put_front(text, topic, stored)?;
-    put_place(text, partition.unsigned_abs(), stored.offset.unsigned_abs())
-}
-
-/// Appends the text of a row in the binary form, with the name of its topic as a JSON string.
+/// Appends the text of a row in a format, with the name of its topic as a JSON string, and with a comma
+/// before it unless it is the first of a reply. Where the key or the value isn't a text of the format
+/// nothing is appended.
 pub fn put_row(
+    alloc: Global,
     text: &mut String,
+    first: bool,
     topic: &str,
     partition: i32,
+    format: Format,
     stored: &Stored,
-) -> Result<(), AllocError>
-    ensures { (name : List ℕ) → topic.now ≡ quoted name → OnOk result (string_bytes text.new ≡ string_bytes text.old
-        ++ item_text forms Binary (record { at = record { topic = name; partition = nat_abs partition }; row = row_of stored.now })) }
+) -> Result<(), FormNo>
+    ensures { (name : List ℕ) → topic.now ≡ quoted name → RowSo first (format_of format) (record { at = record { topic = name; partition = nat_abs partition }; row = row_of stored.now })
+        (string_bytes text.old) (string_bytes text.new) result }
 {
-    put_texts(text, topic, partition, stored)
+    let len = text.as_str().len();
+    put_opening(text, first)?;
+    match put_front(alloc, text, topic, format, stored) {
+        Ok(()) => Ok(put_place(text, partition.unsigned_abs(), stored.offset.unsigned_abs())?),
+        Err(FormNo::Json) => {
+            text.truncate(len);
+            Err(FormNo::Json)
+        }
+        Err(e) => Err(e),
+    }
 }

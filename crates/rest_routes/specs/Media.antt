@@ -1,8 +1,13 @@
 -- The media types that a request names (RFC 9110, sections 8.3 and 12.5.1), each without its parameters and without ASCII case.
-use Rattle.std.specs.Prelude.{ℕ, List, [], ◌∷◌, Bool, true, false, ◌||◌, ◌&&◌, ◌==◌, Option, Some, None, codes, not}
+use Rattle.std.specs.Prelude.{ℕ, List, [], ◌∷◌, Bool, true, false, ◌||◌, ◌&&◌, ◌==◌, if◌then◌else◌, Option, Some, None, is_some, codes, not}
 use Rattle.std.specs.List.{before_first, list_any, slice_split}
 use Rattle.http_head.specs.Member.{is_comma, is_word}
 use Rattle.http_conn.specs.declared.request.Request.{Request}
+use Rattle.forms.specs.declared.format.Format.{Format}
+use Rattle.forms.specs.declared.format.Format.TheVariants as format
+use Rattle.rest_routes.specs.declared.media.Accepted.{Accepted}
+use Rattle.rest_routes.specs.declared.media.Kind.{Kind}
+use Rattle.rest_routes.specs.declared.media.Kind.TheVariants.{Any, Binary, Json, Avro}
 use Rattle.rest_routes.specs.declared.place.Place.{Place}
 use Rattle.rest_routes.specs.declared.place.Place.TheVariants.{Topic, Partition, Group, Instance}
 use Rattle.rest_routes.specs.declared.place.TopicAsk.TheVariants.{Produce}
@@ -26,28 +31,56 @@ is_general member =
 unfoldable pub is_wildcard : List ℕ → Bool
 is_wildcard member = names (codes "*/*") member || names (codes "application/*") member
 
--- the type of binary records
-abbrev pub is_binary : List ℕ → Bool
-is_binary member = names (codes "application/vnd.kafka.binary.v2+json") member
+-- of any records, or of records in one of the embedded formats
+unfoldable pub is_in : Kind → List ℕ → Bool
+is_in Any member = is_general member || is_wildcard member
+is_in Binary member = names (codes "application/vnd.kafka.binary.v2+json") member
+is_in Json member = names (codes "application/vnd.kafka.json.v2+json") member
+is_in Avro member = names (codes "application/vnd.kafka.avro.v2+json") member
 
--- a reply of this kind is of a type that the member names
-abbrev pub is_accepted : (records : Bool) → List ℕ → Bool
-is_accepted records member = is_general member || is_wildcard member || (records && is_binary member)
+-- one of the members is so
+abbrev pub has_one : Kind → List ℕ → Bool
+has_one kind value = list_any (is_in kind) (slice_split is_comma value)
 
--- one of the members is so, or there is no such field
+-- one of them names an embedded format
+abbrev pub has_records : List ℕ → Bool
+has_records value = has_one Binary value || (has_one Json value || has_one Avro value)
+
+-- a reply of this kind is of a type that one of the members names, or there is no such field
 abbrev pub accepts : (records : Bool) → Option (List ℕ) → Bool
 accepts records None = true
-accepts records (Some value) = list_any (is_accepted records) (slice_split is_comma value)
+accepts records (Some value) = has_one Any value || (records && has_records value)
+
+-- no format is named, so that every one is accepted
+abbrev pub all_formats : Accepted
+all_formats = record { binary = false; json = false; avro = false }
+
+-- The formats that the members name. One that stands for each type of reply names none, whichever others stand beside it.
+abbrev pub accepted_by : List ℕ → Accepted
+accepted_by value =
+    if has_one Any value then all_formats
+    else record { binary = has_one Binary value; json = has_one Json value; avro = has_one Avro value }
+
+-- the formats that an Accept names
+abbrev pub accepted_formats : Option (List ℕ) → Accepted
+accepted_formats None = all_formats
+accepted_formats (Some value) = accepted_by value
 
 -- the reply of a place is of a type that the request accepts: that of a read of records holds records, no other does
 abbrev pub is_acceptable : Place → Option (List ℕ) → Bool
 is_acceptable (Instance group name Records) accept = accepts true accept
 is_acceptable place accept = accepts false accept
 
--- the body is of the type of binary records
-abbrev pub holds_binary : Option (List ℕ) → Bool
-holds_binary None = false
-holds_binary (Some type) = is_binary type
+-- the format of records that a type names
+abbrev pub format_named : List ℕ → Option Format
+format_named type =
+    if is_in Binary type then Some format.Binary else
+    if is_in Json type then Some format.Json else None
+
+-- the format of a body's records, if its type names one that is built
+abbrev pub format_in : Option (List ℕ) → Option Format
+format_in None = None
+format_in (Some type) = format_named type
 
 -- no other type than a general one is named
 abbrev pub holds_general : Option (List ℕ) → Bool
@@ -59,11 +92,11 @@ abbrev pub is_described : (body : List ℕ) → Option (List ℕ) → Bool
 is_described [] type = true
 is_described (b ∷ bs) type = holds_general type
 
--- The place reads a body of the type that the request names, as it stands: a produce only one of binary records, a Create and an
--- Assign any of the general types, if there is a body. The other places read none.
+-- The place reads a body of the type that the request names, as it stands: a produce only one of records in a format that is built, a
+-- Create and an Assign any of the general types, if there is a body. The other places read none.
 abbrev pub is_supported : Place → Request → Bool
-is_supported (Topic topic Produce) request = not request.encoded && holds_binary request.content_type
-is_supported (Partition topic number partition.Produce) request = not request.encoded && holds_binary request.content_type
+is_supported (Topic topic Produce) request = not request.encoded && is_some (format_in request.content_type)
+is_supported (Partition topic number partition.Produce) request = not request.encoded && is_some (format_in request.content_type)
 is_supported (Group group) request = not request.encoded && is_described request.body request.content_type
 is_supported (Instance group name Assign) request = not request.encoded && is_described request.body request.content_type
 is_supported place request = true

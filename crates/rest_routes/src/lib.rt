@@ -12,7 +12,7 @@ mod route;
 mod routes;
 
 pub use digits::{are_digits, number_in};
-pub use media::{is_acceptable, is_supported};
+pub use media::{Accepted, accepted_formats, format_in, is_acceptable, is_supported};
 pub use number::PartitionNumber;
 pub use path::is_topic_name;
 pub use place::{Ask, Missing, PartitionAsk, Place, TopicAsk, place_of};

@@ -1,9 +1,10 @@
 ghost use Rattle.std.specs.Prelude.{◌≡◌, ◌<◌, IfSome, length};
 ghost use Rattle.std.specs.List.{before_first, list_any, position, slice_split};
 ghost use Rattle.http_head.specs.Member.{is_comma};
-ghost use Rattle.rest_routes.specs.Media.{accepts, holds_binary, holds_general, is_acceptable, is_accepted, is_binary, is_described, is_general, is_semicolon, is_supported, is_wildcard, names};
+ghost use Rattle.rest_routes.specs.Media.{accepted_by, accepted_formats, accepts, format_in, format_named, has_one, has_records, holds_general, is_acceptable, is_described, is_general, is_in, is_semicolon, is_supported, is_wildcard, names};
 
 use crate::place::{Ask, PartitionAsk, Place, TopicAsk};
+use forms::Format;
 use gate_io::Items;
 use http_conn::Request;
 use http_head::{first_member, is_word};
@@ -47,38 +48,97 @@ fn is_wildcard(member: &[u8]) -> bool
     names(b"*/*", member) || names(b"application/*", member)
 }
 
-fn is_binary(member: &[u8]) -> bool
-    ensures { result ≡ is_binary member.now }
-{
-    names(b"application/vnd.kafka.binary.v2+json", member)
+/// What the type of a body or a reply may be: that of records in one of the embedded formats, or
+/// `Any`, which stands for no format.
+#[derive(Clone, Copy, Debug, PartialEq, Eq)]
+pub(crate) enum Kind {
+    Any,
+    Binary,
+    Json,
+    Avro,
 }
 
-fn is_accepted(records: bool, member: &[u8]) -> bool
-    ensures { result ≡ is_accepted records member.now }
-{
-    is_general(member) || is_wildcard(member) || (records && is_binary(member))
+/// The formats of records that a reply may have: those that the request's Accept names, or every
+/// one where it names none.
+#[derive(Clone, Copy, Debug, PartialEq, Eq)]
+pub struct Accepted {
+    pub binary: bool,
+    pub json: bool,
+    pub avro: bool,
 }
 
-/// One of the members of Accept is a type that the reply can have.
-fn accepts_one(records: bool, value: &[u8]) -> bool
-    ensures { result ≡ list_any (is_accepted records) (slice_split is_comma value.now) }
+#[tactic(auto, unfolding(crate::specs::Media::is_in))]
+fn is_in(kind: Kind, member: &[u8]) -> bool
+    ensures { result ≡ is_in kind member.now }
+{
+    match kind {
+        Kind::Any => is_general(member) || is_wildcard(member),
+        Kind::Binary => names(b"application/vnd.kafka.binary.v2+json", member),
+        Kind::Json => names(b"application/vnd.kafka.json.v2+json", member),
+        Kind::Avro => names(b"application/vnd.kafka.avro.v2+json", member),
+    }
+}
+
+/// One of the members of Accept is of this kind.
+fn has_one(kind: Kind, value: &[u8]) -> bool
+    ensures { result ≡ has_one kind value.now }
 {
     let mut rest = value;
     while let Some((member, behind)) = first_member(rest) {
-        if is_accepted(records, member) {
+        if is_in(kind, member) {
             return true;
         }
         rest = behind;
     }
-    is_accepted(records, rest)
+    is_in(kind, rest)
 }
 
+fn has_records(value: &[u8]) -> bool
+    ensures { result ≡ has_records value.now }
+{
+    has_one(Kind::Binary, value) || has_one(Kind::Json, value) || has_one(Kind::Avro, value)
+}
+
+/// One of the members of Accept is a type that the reply can have.
 fn accepts(records: bool, accept: &Option<Items<u8>>) -> bool
     ensures { result ≡ accepts records accept.now }
 {
     match accept {
-        Some(value) => accepts_one(records, value.as_slice()),
+        Some(value) => {
+            has_one(Kind::Any, value.as_slice()) || (records && has_records(value.as_slice()))
+        }
         None => true,
+    }
+}
+
+fn accepted_by(value: &[u8]) -> Accepted
+    ensures { result ≡ accepted_by value.now }
+{
+    if has_one(Kind::Any, value) {
+        return Accepted {
+            binary: false,
+            json: false,
+            avro: false,
+        };
+    }
+    Accepted {
+        binary: has_one(Kind::Binary, value),
+        json: has_one(Kind::Json, value),
+        avro: has_one(Kind::Avro, value),
+    }
+}
+
+/// The formats that an Accept names.
+pub fn accepted_formats(accept: &Option<Items<u8>>) -> Accepted
+    ensures { result ≡ accepted_formats accept.now }
+{
+    match accept {
+        Some(value) => accepted_by(value.as_slice()),
+        None => Accepted {
+            binary: false,
+            json: false,
+            avro: false,
+        },
     }
 }
 
@@ -92,12 +152,25 @@ pub fn is_acceptable(place: &Place, request: &Request) -> bool
     }
 }
 
-fn holds_binary(content_type: &Option<Items<u8>>) -> bool
-    ensures { result ≡ holds_binary content_type.now }
+fn format_named(name: &[u8]) -> Option<Format>
+    ensures { result ≡ format_named name.now }
+{
+    if is_in(Kind::Binary, name) {
+        return Some(Format::Binary);
+    }
+    if is_in(Kind::Json, name) {
+        return Some(Format::Json);
+    }
+    None
+}
+
+/// The format of a body's records by its type.
+pub fn format_in(content_type: &Option<Items<u8>>) -> Option<Format>
+    ensures { result ≡ format_in content_type.now }
 {
     match content_type {
-        Some(name) => is_binary(name.as_slice()),
-        None => false,
+        Some(name) => format_named(name.as_slice()),
+        None => None,
     }
 }
 
@@ -122,7 +195,7 @@ pub fn is_supported(place: &Place, request: &Request) -> bool
 {
     match place {
         Place::Topic(_, TopicAsk::Produce) | Place::Partition(_, _, PartitionAsk::Produce) => {
-            !request.encoded && holds_binary(&request.content_type)
+            !request.encoded && format_in(&request.content_type).is_some()
         }
         Place::Group(_) | Place::Instance(_, _, Ask::Assign) => {
             !request.encoded && is_described(request.body.as_slice(), &request.content_type)

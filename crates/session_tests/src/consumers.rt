@@ -1,7 +1,11 @@
 //! Sessions of produces and consumers over two partitions of `orders`. The expected bodies are written by
 //! hand after docs/API.md.
 
-use crate::sessions::{WHOLE, story, text};
+use crate::exchange::{
+    ASSIGN, BINARY, BINARY_BODY, BOTH, Exchange, MADE, OK, PARTITION_0, PLAIN, PLAIN_BODY, PRODUCE,
+    RECORDS, WAITING, is_session, requests_of, responses_of,
+};
+use crate::sessions::text;
 use broker_link::{Fail as LinkFail, MemLink};
 use desk::AloneDesk;
 use gate_io::{Items, MemClock, MemSink, MemSource, Text};
@@ -11,46 +15,15 @@ use std::alloc::Global;
 use std::process::Abort;
 use std::test::Fail;
 
-/// A request by its first line and its body, and its response by status, media type and body.
-#[derive(Clone, Copy)]
-struct Exchange<'a> {
-    line: &'a str,
-    body: &'a str,
-    status: &'a str,
-    media: &'a str,
-    told: &'a str,
-}
-
-const BINARY: &str = "application/vnd.kafka.binary.v2+json";
-
-const PLAIN: &str = "application/vnd.kafka.v2+json";
-
 const EARLIEST: &str = "{\"name\":\"c1\",\"auto.offset.reset\":\"earliest\"}";
 
-const MADE: &str =
-    "{\"instance_id\":\"c1\",\"base_uri\":\"http://localhost:8082/consumers/g/instances/c1\"}";
-
-const ASSIGN: &str = "POST /consumers/g/instances/c1/assignments";
-
-const PARTITION_0: &str = "{\"partitions\":[{\"topic\":\"orders\",\"partition\":0}]}";
-
-const BOTH: &str =
-    "{\"partitions\":[{\"topic\":\"orders\",\"partition\":0},{\"topic\":\"orders\",\"partition\":1}]}";
-
-const PRODUCE: &str = "POST /topics/orders";
-
-const OK: &str = "200 OK";
-
-const RECORDS: &str = "GET /consumers/g/instances/c1/records?timeout=0";
-
 const ONE_BYTE: &str = "GET /consumers/g/instances/c1/records?timeout=0&max_bytes=1";
-
-const WAITING: &str = "GET /consumers/g/instances/c1/records?timeout=25";
 
 /// A refused produce stores nothing: the offsets behind it tell.
 const PRODUCES: [Exchange<'static>; 9] = [
     Exchange {
         line: PRODUCE,
+        fields: BINARY_BODY,
         body: "{\"records\":[{\"value\":\"S2Fma2E=\",\"partition\":0}]}",
         status: OK,
         media: PLAIN,
@@ -58,6 +31,7 @@ const PRODUCES: [Exchange<'static>; 9] = [
     },
     Exchange {
         line: "POST /topics/nope",
+        fields: BINARY_BODY,
         body: "{\"records\":[{\"value\":\"S2Fma2E=\",\"partition\":0}]}",
         status: "404 Not Found",
         media: PLAIN,
@@ -65,6 +39,7 @@ const PRODUCES: [Exchange<'static>; 9] = [
     },
     Exchange {
         line: PRODUCE,
+        fields: BINARY_BODY,
         body: "{\"records\":[{\"value\":\"S2Fma2E=\",\"partition\":2}]}",
         status: "404 Not Found",
         media: PLAIN,
@@ -72,6 +47,7 @@ const PRODUCES: [Exchange<'static>; 9] = [
     },
     Exchange {
         line: PRODUCE,
+        fields: BINARY_BODY,
         body: "{\"records\":[]}",
         status: "422 Unprocessable Entity",
         media: PLAIN,
@@ -79,6 +55,7 @@ const PRODUCES: [Exchange<'static>; 9] = [
     },
     Exchange {
         line: PRODUCE,
+        fields: BINARY_BODY,
         body: "{\"records\":[{\"value\":\"S2F\",\"partition\":0}]}",
         status: "422 Unprocessable Entity",
         media: PLAIN,
@@ -86,6 +63,7 @@ const PRODUCES: [Exchange<'static>; 9] = [
     },
     Exchange {
         line: PRODUCE,
+        fields: BINARY_BODY,
         body: "{\"records\":[{\"value\":\"S2Fma2E=\",\"partition\":\"0\"}]}",
         status: "422 Unprocessable Entity",
         media: PLAIN,
@@ -93,6 +71,7 @@ const PRODUCES: [Exchange<'static>; 9] = [
     },
     Exchange {
         line: PRODUCE,
+        fields: BINARY_BODY,
         body: "{\"records\":[{\"value\":\"S2Fma2E=\",\"partition\":0},{\"partition\":2}]}",
         status: "404 Not Found",
         media: PLAIN,
@@ -100,6 +79,7 @@ const PRODUCES: [Exchange<'static>; 9] = [
     },
     Exchange {
         line: PRODUCE,
+        fields: BINARY_BODY,
         body: "{\"records\":[{\"value\":\"S2Fma2E=\",\"partition\":0},{\"value\":\"S2F\",\"partition\":0}]}",
         status: "422 Unprocessable Entity",
         media: PLAIN,
@@ -107,6 +87,7 @@ const PRODUCES: [Exchange<'static>; 9] = [
     },
     Exchange {
         line: PRODUCE,
+        fields: BINARY_BODY,
         body: "{\"records\":[{\"partition\":1},{\"partition\":0},{\"partition\":1}]}",
         status: OK,
         media: PLAIN,
@@ -118,6 +99,7 @@ const PRODUCES: [Exchange<'static>; 9] = [
 const CHOSEN: [Exchange<'static>; 4] = [
     Exchange {
         line: PRODUCE,
+        fields: BINARY_BODY,
         body: "{\"records\":[{\"value\":\"S2Fma2E=\"},{\"key\":\"YWJj\"},{\"value\":\"bm8=\"},{\"partition\":1},{}]}",
         status: OK,
         media: PLAIN,
@@ -125,6 +107,7 @@ const CHOSEN: [Exchange<'static>; 4] = [
     },
     Exchange {
         line: PRODUCE,
+        fields: BINARY_BODY,
         body: "{\"records\":[{\"value\":\"S2Fma2E=\"},{\"partition\":2}]}",
         status: "404 Not Found",
         media: PLAIN,
@@ -132,6 +115,7 @@ const CHOSEN: [Exchange<'static>; 4] = [
     },
     Exchange {
         line: "POST /topics/orders/partitions/1",
+        fields: BINARY_BODY,
         body: "{\"records\":[{\"value\":\"S2Fma2E=\",\"partition\":0}]}",
         status: OK,
         media: PLAIN,
@@ -139,6 +123,7 @@ const CHOSEN: [Exchange<'static>; 4] = [
     },
     Exchange {
         line: "POST /topics/orders/partitions/2",
+        fields: BINARY_BODY,
         body: "{\"records\":[{\"value\":\"S2Fma2E=\",\"partition\":0}]}",
         status: "404 Not Found",
         media: PLAIN,
@@ -149,6 +134,7 @@ const CHOSEN: [Exchange<'static>; 4] = [
 const NAMED: [Exchange<'static>; 7] = [
     Exchange {
         line: "POST /consumers/g",
+        fields: PLAIN_BODY,
         body: EARLIEST,
         status: OK,
         media: PLAIN,
@@ -156,6 +142,7 @@ const NAMED: [Exchange<'static>; 7] = [
     },
     Exchange {
         line: "POST /consumers/g",
+        fields: PLAIN_BODY,
         body: EARLIEST,
         status: "409 Conflict",
         media: PLAIN,
@@ -163,6 +150,7 @@ const NAMED: [Exchange<'static>; 7] = [
     },
     Exchange {
         line: "POST /consumers/g",
+        fields: "",
         body: "",
         status: OK,
         media: PLAIN,
@@ -170,6 +158,7 @@ const NAMED: [Exchange<'static>; 7] = [
     },
     Exchange {
         line: "POST /consumers/g",
+        fields: "",
         body: "",
         status: OK,
         media: PLAIN,
@@ -177,6 +166,7 @@ const NAMED: [Exchange<'static>; 7] = [
     },
     Exchange {
         line: "POST /consumers/g",
+        fields: PLAIN_BODY,
         body: "{\"name\":\"auto-x\"}",
         status: "422 Unprocessable Entity",
         media: PLAIN,
@@ -184,6 +174,7 @@ const NAMED: [Exchange<'static>; 7] = [
     },
     Exchange {
         line: "DELETE /consumers/g/instances/c1",
+        fields: "",
         body: "",
         status: "204 No Content",
         media: PLAIN,
@@ -191,6 +182,7 @@ const NAMED: [Exchange<'static>; 7] = [
     },
     Exchange {
         line: "DELETE /consumers/g/instances/c1",
+        fields: "",
         body: "",
         status: "404 Not Found",
         media: PLAIN,
@@ -201,6 +193,7 @@ const NAMED: [Exchange<'static>; 7] = [
 const ONE_BY_ONE: [Exchange<'static>; 10] = [
     Exchange {
         line: PRODUCE,
+        fields: BINARY_BODY,
         body: "{\"records\":[{\"value\":\"S2Fma2E=\",\"partition\":0},{\"value\":\"S2Fma2E=\",\"partition\":0},{\"value\":\"S2Fma2E=\",\"partition\":0}]}",
         status: OK,
         media: PLAIN,
@@ -208,6 +201,7 @@ const ONE_BY_ONE: [Exchange<'static>; 10] = [
     },
     Exchange {
         line: "POST /consumers/g",
+        fields: PLAIN_BODY,
         body: EARLIEST,
         status: OK,
         media: PLAIN,
@@ -215,6 +209,7 @@ const ONE_BY_ONE: [Exchange<'static>; 10] = [
     },
     Exchange {
         line: ASSIGN,
+        fields: PLAIN_BODY,
         body: PARTITION_0,
         status: "204 No Content",
         media: PLAIN,
@@ -222,6 +217,7 @@ const ONE_BY_ONE: [Exchange<'static>; 10] = [
     },
     Exchange {
         line: "GET /consumers/g/instances/c1/assignments",
+        fields: "",
         body: "",
         status: OK,
         media: PLAIN,
@@ -229,6 +225,7 @@ const ONE_BY_ONE: [Exchange<'static>; 10] = [
     },
     Exchange {
         line: ONE_BYTE,
+        fields: "",
         body: "",
         status: "200 OK",
         media: BINARY,
@@ -236,6 +233,7 @@ const ONE_BY_ONE: [Exchange<'static>; 10] = [
     },
     Exchange {
         line: ONE_BYTE,
+        fields: "",
         body: "",
         status: "200 OK",
         media: BINARY,
@@ -243,6 +241,7 @@ const ONE_BY_ONE: [Exchange<'static>; 10] = [
     },
     Exchange {
         line: ONE_BYTE,
+        fields: "",
         body: "",
         status: "200 OK",
         media: BINARY,
@@ -250,6 +249,7 @@ const ONE_BY_ONE: [Exchange<'static>; 10] = [
     },
     Exchange {
         line: ONE_BYTE,
+        fields: "",
         body: "",
         status: "200 OK",
         media: BINARY,
@@ -257,6 +257,7 @@ const ONE_BY_ONE: [Exchange<'static>; 10] = [
     },
     Exchange {
         line: ASSIGN,
+        fields: PLAIN_BODY,
         body: "{\"partitions\":[{\"topic\":\"orders\",\"partition\":2}]}",
         status: "404 Not Found",
         media: PLAIN,
@@ -264,6 +265,7 @@ const ONE_BY_ONE: [Exchange<'static>; 10] = [
     },
     Exchange {
         line: "GET /consumers/g/instances/c2/records",
+        fields: "",
         body: "",
         status: "404 Not Found",
         media: PLAIN,
@@ -274,6 +276,7 @@ const ONE_BY_ONE: [Exchange<'static>; 10] = [
 const ALL_AT_ONCE: [Exchange<'static>; 5] = [
     Exchange {
         line: PRODUCE,
+        fields: BINARY_BODY,
         body: "{\"records\":[{\"value\":\"S2Fma2E=\",\"partition\":0},{\"value\":\"S2Fma2E=\",\"partition\":1},{\"value\":\"S2Fma2E=\",\"partition\":0},{\"value\":\"S2Fma2E=\",\"partition\":0}]}",
         status: OK,
         media: PLAIN,
@@ -281,6 +284,7 @@ const ALL_AT_ONCE: [Exchange<'static>; 5] = [
     },
     Exchange {
         line: "POST /consumers/g",
+        fields: PLAIN_BODY,
         body: EARLIEST,
         status: OK,
         media: PLAIN,
@@ -288,6 +292,7 @@ const ALL_AT_ONCE: [Exchange<'static>; 5] = [
     },
     Exchange {
         line: ASSIGN,
+        fields: PLAIN_BODY,
         body: BOTH,
         status: "204 No Content",
         media: PLAIN,
@@ -295,6 +300,7 @@ const ALL_AT_ONCE: [Exchange<'static>; 5] = [
     },
     Exchange {
         line: RECORDS,
+        fields: "",
         body: "",
         status: "200 OK",
         media: BINARY,
@@ -302,6 +308,7 @@ const ALL_AT_ONCE: [Exchange<'static>; 5] = [
     },
     Exchange {
         line: RECORDS,
+        fields: "",
         body: "",
         status: "200 OK",
         media: BINARY,
@@ -313,6 +320,7 @@ const ALL_AT_ONCE: [Exchange<'static>; 5] = [
 const IN_TURN: [Exchange<'static>; 8] = [
     Exchange {
         line: PRODUCE,
+        fields: BINARY_BODY,
         body: "{\"records\":[{\"value\":\"S2Fma2E=\",\"partition\":0},{\"value\":\"S2Fma2E=\",\"partition\":0},{\"value\":\"S2Fma2E=\",\"partition\":1},{\"value\":\"S2Fma2E=\",\"partition\":1}]}",
         status: OK,
         media: PLAIN,
@@ -320,6 +328,7 @@ const IN_TURN: [Exchange<'static>; 8] = [
     },
     Exchange {
         line: "POST /consumers/g",
+        fields: PLAIN_BODY,
         body: EARLIEST,
         status: OK,
         media: PLAIN,
@@ -327,6 +336,7 @@ const IN_TURN: [Exchange<'static>; 8] = [
     },
     Exchange {
         line: ASSIGN,
+        fields: PLAIN_BODY,
         body: BOTH,
         status: "204 No Content",
         media: PLAIN,
@@ -334,6 +344,7 @@ const IN_TURN: [Exchange<'static>; 8] = [
     },
     Exchange {
         line: ONE_BYTE,
+        fields: "",
         body: "",
         status: "200 OK",
         media: BINARY,
@@ -341,6 +352,7 @@ const IN_TURN: [Exchange<'static>; 8] = [
     },
     Exchange {
         line: ONE_BYTE,
+        fields: "",
         body: "",
         status: "200 OK",
         media: BINARY,
@@ -348,6 +360,7 @@ const IN_TURN: [Exchange<'static>; 8] = [
     },
     Exchange {
         line: ONE_BYTE,
+        fields: "",
         body: "",
         status: "200 OK",
         media: BINARY,
@@ -355,6 +368,7 @@ const IN_TURN: [Exchange<'static>; 8] = [
     },
     Exchange {
         line: ONE_BYTE,
+        fields: "",
         body: "",
         status: "200 OK",
         media: BINARY,
@@ -362,6 +376,7 @@ const IN_TURN: [Exchange<'static>; 8] = [
     },
     Exchange {
         line: ONE_BYTE,
+        fields: "",
         body: "",
         status: "200 OK",
         media: BINARY,
@@ -373,6 +388,7 @@ const IN_TURN: [Exchange<'static>; 8] = [
 const WAITED: [Exchange<'static>; 3] = [
     Exchange {
         line: "POST /consumers/g",
+        fields: PLAIN_BODY,
         body: EARLIEST,
         status: OK,
         media: PLAIN,
@@ -380,6 +396,7 @@ const WAITED: [Exchange<'static>; 3] = [
     },
     Exchange {
         line: ASSIGN,
+        fields: PLAIN_BODY,
         body: PARTITION_0,
         status: "204 No Content",
         media: PLAIN,
@@ -387,6 +404,7 @@ const WAITED: [Exchange<'static>; 3] = [
     },
     Exchange {
         line: WAITING,
+        fields: "",
         body: "",
         status: "200 OK",
         media: BINARY,
@@ -398,6 +416,7 @@ const WAITED: [Exchange<'static>; 3] = [
 const ENOUGH: [Exchange<'static>; 4] = [
     Exchange {
         line: PRODUCE,
+        fields: BINARY_BODY,
         body: "{\"records\":[{\"value\":\"S2Fma2E=\",\"partition\":0},{\"value\":\"S2Fma2E=\",\"partition\":0},{\"value\":\"S2Fma2E=\",\"partition\":0}]}",
         status: OK,
         media: PLAIN,
@@ -405,6 +424,7 @@ const ENOUGH: [Exchange<'static>; 4] = [
     },
     Exchange {
         line: "POST /consumers/g",
+        fields: PLAIN_BODY,
         body: "{\"name\":\"c1\",\"auto.offset.reset\":\"earliest\",\"fetch.min.bytes\":15}",
         status: OK,
         media: PLAIN,
@@ -412,6 +432,7 @@ const ENOUGH: [Exchange<'static>; 4] = [
     },
     Exchange {
         line: ASSIGN,
+        fields: PLAIN_BODY,
         body: PARTITION_0,
         status: "204 No Content",
         media: PLAIN,
@@ -419,6 +440,7 @@ const ENOUGH: [Exchange<'static>; 4] = [
     },
     Exchange {
         line: WAITING,
+        fields: "",
         body: "",
         status: "200 OK",
         media: BINARY,
@@ -430,6 +452,7 @@ const ENOUGH: [Exchange<'static>; 4] = [
 const TOO_FEW: [Exchange<'static>; 4] = [
     Exchange {
         line: PRODUCE,
+        fields: BINARY_BODY,
         body: "{\"records\":[{\"value\":\"S2Fma2E=\",\"partition\":0},{\"value\":\"S2Fma2E=\",\"partition\":0},{\"value\":\"S2Fma2E=\",\"partition\":0}]}",
         status: OK,
         media: PLAIN,
@@ -437,6 +460,7 @@ const TOO_FEW: [Exchange<'static>; 4] = [
     },
     Exchange {
         line: "POST /consumers/g",
+        fields: PLAIN_BODY,
         body: "{\"name\":\"c1\",\"auto.offset.reset\":\"earliest\",\"fetch.min.bytes\":16}",
         status: OK,
         media: PLAIN,
@@ -444,6 +468,7 @@ const TOO_FEW: [Exchange<'static>; 4] = [
     },
     Exchange {
         line: ASSIGN,
+        fields: PLAIN_BODY,
         body: PARTITION_0,
         status: "204 No Content",
         media: PLAIN,
@@ -451,77 +476,13 @@ const TOO_FEW: [Exchange<'static>; 4] = [
     },
     Exchange {
         line: WAITING,
+        fields: "",
         body: "",
         status: "200 OK",
         media: BINARY,
         told: "[{\"topic\":\"orders\",\"key\":null,\"value\":\"S2Fma2E=\",\"partition\":0,\"offset\":0},{\"topic\":\"orders\",\"key\":null,\"value\":\"S2Fma2E=\",\"partition\":0,\"offset\":1},{\"topic\":\"orders\",\"key\":null,\"value\":\"S2Fma2E=\",\"partition\":0,\"offset\":2}]",
     },
 ];
-
-/// The type of the body of a request with this line.
-fn body_type(line: &str) -> &'static str {
-    if line.starts_with("POST /topics/") {
-        BINARY
-    } else {
-        PLAIN
-    }
-}
-
-fn push_request(alloc: Global, text: &mut String, one: &Exchange<'_>) -> Result<(), Fail> {
-    let (line, body) = (one.line, one.body);
-    let size = body.len();
-    let media = body_type(line);
-    let request = format!(in alloc;
-        "{line} HTTP/1.1\r\nHost: p\r\nContent-Type: {media}\r\nContent-Length: {size}\r\n\r\n{body}"
-    )?;
-    text.push_str(request.as_str())?;
-    Ok(())
-}
-
-fn push_response(alloc: Global, text: &mut String, one: &Exchange<'_>) -> Result<(), Fail> {
-    let (status, media, told) = (one.status, one.media, one.told);
-    let size = told.len();
-    if size == 0 {
-        text.push_str("HTTP/1.1 204 No Content\r\n\r\n")?;
-        return Ok(());
-    }
-    let response = format!(in alloc;
-        "HTTP/1.1 {status}\r\nContent-Type: {media}\r\nContent-Length: {size}\r\n\r\n{told}"
-    )?;
-    text.push_str(response.as_str())?;
-    Ok(())
-}
-
-fn requests_of(alloc: Global, exchanges: &[Exchange<'_>]) -> Result<String, Fail> {
-    let mut text = String::new(alloc);
-    for one in exchanges {
-        push_request(alloc, &mut text, one)?;
-    }
-    Ok(text)
-}
-
-/// The responses behind this line.
-fn responses_of(alloc: Global, ending: &str, exchanges: &[Exchange<'_>]) -> Result<String, Fail> {
-    let mut text = String::from_str(alloc, ending)?;
-    for one in exchanges {
-        push_response(alloc, &mut text, one)?;
-    }
-    Ok(text)
-}
-
-/// These exchanges are those of one session, which ends so.
-fn is_session(
-    rt: &impl Abort,
-    alloc: Global,
-    exchanges: &[Exchange<'_>],
-    ending: &str,
-) -> Result<(), Fail> {
-    let input = requests_of(alloc, exchanges)?;
-    let wanted = responses_of(alloc, ending, exchanges)?;
-    let told = story(alloc, &WHOLE, input.as_bytes())?;
-    assert_eq!(rt; told.as_str(), wanted.as_str());
-    Ok(())
-}
 
 #[test]
 fn a_refused_produce_stores_nothing(rt: HostRuntime) -> Result<(), Fail> {
@@ -573,6 +534,7 @@ fn a_look_that_finds_too_few_waits(rt: HostRuntime) -> Result<(), Fail> {
 const REFUSED: [Exchange<'static>; 2] = [
     Exchange {
         line: PRODUCE,
+        fields: BINARY_BODY,
         body: "{\"records\":[{\"value\":\"S2Fma2E=\",\"partition\":0}]}",
         status: "500 Internal Server Error",
         media: PLAIN,
@@ -580,6 +542,7 @@ const REFUSED: [Exchange<'static>; 2] = [
     },
     Exchange {
         line: PRODUCE,
+        fields: BINARY_BODY,
         body: "{\"records\":[{\"value\":\"S2Fma2E=\",\"partition\":0}]}",
         status: OK,
         media: PLAIN,

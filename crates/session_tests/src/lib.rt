@@ -2,8 +2,16 @@
 #![tactic(auto)]
 
 #[cfg(test)]
+mod chosen;
+#[cfg(test)]
 mod consumers;
 #[cfg(test)]
+mod exchange;
+#[cfg(test)]
+mod json;
+#[cfg(test)]
 mod sessions;
+#[cfg(test)]
+mod topics;
 #[cfg(test)]
 mod words;

@@ -17,16 +17,18 @@ pub(crate) struct Streams<'a> {
     write_faults: &'a [u64],
 }
 
-const WORDS: [&str; 2] = ["session", "orders:2"];
+pub(crate) const ORDERS: [&str; 2] = ["session", "orders:2"];
 
 /// Nothing fails, and all is taken at once.
-pub(crate) const WHOLE: Streams<'static> = Streams {
-    words: &WORDS,
-    read_piece: 1_000_000,
-    read_faults: &[],
-    write_piece: 1_000_000,
-    write_faults: &[],
-};
+pub(crate) fn whole<'a>(words: &'a [&'a str]) -> Streams<'a> {
+    Streams {
+        words,
+        read_piece: 1_000_000,
+        read_faults: &[],
+        write_piece: 1_000_000,
+        write_faults: &[],
+    }
+}
 
 /// A session by its requests, all but the last `left` bytes of them, and how it ends: its status, moment
 /// and line, and behind them the first `written` bytes of the responses.
@@ -199,7 +201,7 @@ fn cuts_end_so(rt: &impl Abort, alloc: Global, cases: &[Cut<'_>]) -> Result<(), 
     for (name, requests, left, responses) in cases {
         let row = Row {
             name,
-            streams: WHOLE,
+            streams: whole(&ORDERS),
             requests,
             left: *left,
             ending: "0 at 0\n",
@@ -237,7 +239,7 @@ fn faults_end_so(
 ) -> Result<(), Fail> {
     for (read_faults, write_piece, write_faults, ending, written) in cases {
         let streams = Streams {
-            words: &WORDS,
+            words: &ORDERS,
             read_piece: 1_000_000,
             read_faults,
             write_piece: *write_piece,
@@ -319,16 +321,9 @@ fn words_end_so(
     cases: &[Asked<'_>],
 ) -> Result<(), Fail> {
     for (name, words, requests, responses) in cases {
-        let streams = Streams {
-            words,
-            read_piece: 1_000_000,
-            read_faults: &[],
-            write_piece: 1_000_000,
-            write_faults: &[],
-        };
         let row = Row {
             name,
-            streams,
+            streams: whole(words),
             requests,
             left: 0,
             ending,
@@ -368,7 +363,7 @@ fn pieces_end_so(
 ) -> Result<(), Fail> {
     for (piece, end, last) in cases {
         let streams = Streams {
-            words: &WORDS,
+            words: &ORDERS,
             read_piece: *piece,
             read_faults: &[],
             write_piece: 1_000_000,
@@ -414,7 +409,7 @@ fn is_closed(rt: &impl Abort, told: &str) {
 #[test]
 fn the_last_request_that_is_allowed_closes(rt: HostRuntime) -> Result<(), Fail> {
     let input = many(rt.alloc(), ELSEWHERE, 100_002)?;
-    let told = story(rt.alloc(), &WHOLE, input.as_bytes())?;
+    let told = story(rt.alloc(), &whole(&ORDERS), input.as_bytes())?;
     is_closed(&rt, told.as_str());
     Ok(())
 }

@@ -18,7 +18,7 @@ returns-in_default g c =
       acts = λ advertise act is.
           told_seen advertise c.args.call.now c.self.inside.consumer key c.args.self.now c.self.view_is c.args.now c.args.round act is (g.L.Link.stand c.args.link.now).tells (g.L.Link.stand c.args.link.now).plain (g.L.Link.stand c.args.link.now).counts a
           c.told.result _ _ (ap (map event_of) c.of_reply-in_default.ensures.events) (ap (option_map response_in) c.of_reply-in_default.ensures.reply) c.in_default.not-Assign c.in_default.not-Records c.told.ensures.says;
-      handed = λ timeout bound is. absurd (no_look c.args.call.now c.args.self.now.key timeout bound is c.in_default.not-Records);
+      handed = λ formats timeout bound is. absurd (no_look c.args.call.now c.args.self.now.key formats timeout bound is c.in_default.not-Records);
       key = ap (λ (l : Live). l.key) c.self.view_is;
       unsubscribed = never_by_topics c.self.inside.consumer key c.args.self.now c.self.view_is;
       waits = λ none. absurd (cc (none, c.of_reply-in_default.ensures.reply));
