@@ -18,6 +18,8 @@ mod refusals;
 #[cfg(test)]
 mod sample;
 #[cfg(test)]
+mod seeks;
+#[cfg(test)]
 mod shown;
 #[cfg(test)]
 mod topic_names;

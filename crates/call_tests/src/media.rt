@@ -17,6 +17,14 @@ const DELETE: (&str, &str) = ("DELETE", "/consumers/g/instances/c");
 
 const ASSIGN: (&str, &str) = ("POST", "/consumers/g/instances/c/assignments");
 
+const SUBSCRIPTION: (&str, &str) = ("GET", "/consumers/g/instances/c/subscription");
+
+const SEEK: (&str, &str) = ("POST", "/consumers/g/instances/c/positions");
+
+const TO_START: (&str, &str) = ("POST", "/consumers/g/instances/c/positions/beginning");
+
+const TO_END: (&str, &str) = ("POST", "/consumers/g/instances/c/positions/end");
+
 const RECORDS: (&str, &str) = ("GET", "/consumers/g/instances/c/records");
 
 const BINARY: &str = "application/vnd.kafka.binary.v2+json";
@@ -64,7 +72,7 @@ fn accepts_are(
 
 const TOPICS: (&str, &str) = ("GET", "/topics");
 
-const ACCEPTS: [((&str, &str), &str, u32); 27] = [
+const ACCEPTS: [((&str, &str), &str, u32); 31] = [
     (TOPICS, "application/vnd.kafka.v2+json", 200),
     (TOPICS, "*/*", 200),
     (TOPICS, BINARY, 406),
@@ -86,6 +94,10 @@ const ACCEPTS: [((&str, &str), &str, u32); 27] = [
     (DELETE, BINARY, 406),
     (DELETE, JSON, 406),
     (DELETE, AVRO, 406),
+    (SUBSCRIPTION, "application/vnd.kafka.v2+json", 200),
+    (SUBSCRIPTION, BINARY, 406),
+    (SEEK, "*/*", 200),
+    (TO_END, JSON, 406),
     (RECORDS, BINARY, 200),
     (
         RECORDS,
@@ -120,7 +132,7 @@ fn types_are(
     Ok(())
 }
 
-const TYPES: [((&str, &str), &str, &str, u32); 22] = [
+const TYPES: [((&str, &str), &str, &str, u32); 32] = [
     (TOPICS, "text/plain", "{}", 200),
     (PRODUCE, BINARY, "{}", 200),
     (
@@ -151,6 +163,16 @@ const TYPES: [((&str, &str), &str, &str, u32); 22] = [
     (CREATE, "text/plain", " ", 415),
     (ASSIGN, "application/json", "{}", 200),
     (ASSIGN, "text/plain", "{}", 415),
+    (SUBSCRIPTION, "text/plain", "{}", 200),
+    (SEEK, "", "{}", 200),
+    (SEEK, "application/vnd.kafka.v2+json", "{}", 200),
+    (SEEK, BINARY, "{}", 415),
+    (SEEK, "text/plain", "", 200),
+    (TO_START, "application/json", "{}", 200),
+    (TO_START, "text/plain", "{}", 415),
+    (TO_END, "application/vnd.kafka+json", "{}", 200),
+    (TO_END, JSON, "{}", 415),
+    (TO_END, "text/plain", " ", 415),
     (RECORDS, "text/plain", "{}", 200),
     (("GET", "/consumers/g"), "application/json", "{}", 404),
 ];

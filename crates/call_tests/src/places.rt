@@ -7,8 +7,12 @@ use std::test::Fail;
 fn name_of(ask: Ask) -> &'static str {
     match ask {
         Ask::Delete => "delete",
+        Ask::Subscription => "subscription",
         Ask::Assign => "assign",
         Ask::Assignments => "assignments",
+        Ask::Seek => "seek",
+        Ask::SeekBeginning => "start",
+        Ask::SeekEnd => "end",
         Ask::Records => "records",
     }
 }
@@ -72,7 +76,7 @@ fn places_are(rt: &impl Abort, alloc: Global, cases: &[(&str, &str, &str)]) -> R
     Ok(())
 }
 
-const PLACES: [(&str, &str, &str); 26] = [
+const PLACES: [(&str, &str, &str); 30] = [
     ("GET", "/brokers", "brokers"),
     ("GET", "/topics", "topics"),
     ("GET", "/topics/t", "description t"),
@@ -109,6 +113,11 @@ const PLACES: [(&str, &str, &str); 26] = [
     ("POST", "/consumers/g", "group g"),
     ("DELETE", "/consumers/g/instances/c%2f1", "delete g c/1"),
     (
+        "GET",
+        "/consumers/g/instances/c1/subscription",
+        "subscription g c1",
+    ),
+    (
         "POST",
         "/consumers/g/instances/c1/assignments",
         "assign g c1",
@@ -117,6 +126,17 @@ const PLACES: [(&str, &str, &str); 26] = [
         "GET",
         "/consumers/g/instances/c1/assignments",
         "assignments g c1",
+    ),
+    ("POST", "/consumers/g/instances/c1/positions", "seek g c1"),
+    (
+        "POST",
+        "/consumers/g/instances/c1/positions/beginning",
+        "start g c1",
+    ),
+    (
+        "POST",
+        "/consumers/g/instances/c1/positions/end",
+        "end g c1",
     ),
     (
         "GET",
@@ -161,18 +181,11 @@ fn a_path_without_the_method_tells_its_first_place(rt: HostRuntime) -> Result<()
 }
 
 // Places of the reference that no call stands for yet.
-const UNBUILT: [(&str, &str, &str); 7] = [
+const UNBUILT: [(&str, &str, &str); 4] = [
     ("POST", "/consumers/g/instances/c/offsets", "none"),
     ("GET", "/consumers/g/instances/c/offsets", "none"),
     ("DELETE", "/consumers/g/instances/c/subscription", "none"),
     ("POST", "/consumers/g/instances/c/subscription", "none"),
-    ("POST", "/consumers/g/instances/c/positions", "none"),
-    (
-        "POST",
-        "/consumers/g/instances/c/positions/beginning",
-        "none",
-    ),
-    ("POST", "/consumers/g/instances/c/positions/end", "none"),
 ];
 
 #[test]

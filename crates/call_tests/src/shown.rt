@@ -1,7 +1,7 @@
 //! Requests and calls of tests.
 
 use crate::sample::request_of;
-use broker_link::{Edge, TopicPart};
+use broker_link::{Edge, Place, TopicPart};
 use gate_io::{Items, Text};
 use http_conn::Request;
 use rest_calls::{Accepted, Call, Format, Payload, Question, Row, Settings, call_of};
@@ -64,15 +64,19 @@ fn show_names(out: &mut String, kind: &str, group: &Text, name: &str) -> Result<
     out.push_str(name)
 }
 
+fn edge_name_of(edge: Edge) -> &'static str {
+    match edge {
+        Edge::Start => "start",
+        Edge::End => "end",
+    }
+}
+
 fn show_settings(alloc: Global, out: &mut String, settings: &Settings) -> Result<(), AllocError> {
     let format = match settings.format {
         Format::Binary => "binary",
         Format::Json => "json",
     };
-    let reset = match settings.reset {
-        Edge::Start => "start",
-        Edge::End => "end",
-    };
+    let reset = edge_name_of(settings.reset);
     let (bytes, wait) = (settings.min_bytes, settings.timeout_ms);
     let text = format!(in alloc; " {format} {reset} {bytes} {wait}")?;
     out.push_str(text.as_str())
@@ -83,6 +87,16 @@ fn show_parts(alloc: Global, out: &mut String, parts: &[TopicPart]) -> Result<()
     for part in parts {
         let (topic, partition) = (part.topic.as_str(), part.partition);
         let text = format!(in alloc; " {topic}/{partition}")?;
+        out.push_str(text.as_str())?;
+    }
+    Ok(())
+}
+
+/// Each place as its topic, number and position.
+fn show_places(alloc: Global, out: &mut String, places: &[Place]) -> Result<(), AllocError> {
+    for place in places {
+        let (topic, partition, position) = (place.topic.as_str(), place.partition, place.position);
+        let text = format!(in alloc; " {topic}/{partition}:{position}")?;
         out.push_str(text.as_str())?;
     }
     Ok(())
@@ -163,6 +177,9 @@ fn show_call(alloc: Global, out: &mut String, call: &Call) -> Result<(), AllocEr
             show_settings(alloc, out, settings)
         }
         Call::Delete { group, instance } => show_names(out, "delete", group, instance.as_str()),
+        Call::Subscription { group, instance } => {
+            show_names(out, "subscription", group, instance.as_str())
+        }
         Call::Assign {
             group,
             instance,
@@ -173,6 +190,23 @@ fn show_call(alloc: Global, out: &mut String, call: &Call) -> Result<(), AllocEr
         }
         Call::Assignments { group, instance } => {
             show_names(out, "assignments", group, instance.as_str())
+        }
+        Call::Seek {
+            group,
+            instance,
+            places,
+        } => {
+            show_names(out, "seek", group, instance.as_str())?;
+            show_places(alloc, out, places.as_slice())
+        }
+        Call::SeekEdge {
+            group,
+            instance,
+            edge,
+            parts,
+        } => {
+            show_names(out, edge_name_of(*edge), group, instance.as_str())?;
+            show_parts(alloc, out, parts.as_slice())
         }
         Call::Records {
             group,

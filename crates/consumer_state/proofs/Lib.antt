@@ -4,3 +4,5 @@ pub mod Sorting
 pub mod Knowing
 pub mod Fixing
 pub mod Assigning
+pub mod PositionLemmas
+pub mod SeekLemmas

@@ -4,3 +4,4 @@ pub mod LinkCalls
 pub mod Topics
 pub mod Order
 pub mod Fix
+pub mod Positions

@@ -46,8 +46,8 @@ fn places_for<L: Link>(
     fix(alloc, link, group, reset, kept, sorted.as_slice())
 }
 
-/// The reply to an Assign that isn't done.
-fn refusal(alloc: Global, no: AssignNo) -> Reply
+/// The reply to an Assign or a seek that isn't done.
+pub(crate) fn refusal(alloc: Global, no: AssignNo) -> Reply
     ensures says { SaysOrWant (refusal_of no) result }
 {
     match no {

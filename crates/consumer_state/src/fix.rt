@@ -80,7 +80,7 @@ fn push(places: &mut Vec<Place>, place: Place) -> Result<(), AllocError>
 }
 
 /// The places of the partitions, one after the other.
-fn fix_all<L: Link>(
+pub(crate) fn fix_all<L: Link>(
     alloc: Global,
     link: &mut L,
     parts: &[TopicPart],

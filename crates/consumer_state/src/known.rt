@@ -1,7 +1,7 @@
 ghost use Rattle.std.specs.Prelude.{◌≡◌, ◌+◌, ◌++◌, ◌<◌, ◌≤◌, IfOk, OnOk, List, [], ◌∷◌, filter, length, map, option_map, pos, None};
 ghost use Rattle.model.specs.state.Log.{is_at};
 ghost use Rattle.model.specs.state.World.{position_in};
-ghost use Rattle.broker_link.specs.Fetching.{at_of};
+ghost use Rattle.broker_link.specs.Fetching.{at_of, named_at};
 ghost use Rattle.consumer_state.specs.Fix.{is_new, known_at, merged, next_after};
 ghost use Rattle.broker_link.specs.Places.{at_in, place_of};
 
@@ -9,19 +9,18 @@ use crate::order::copied;
 use broker_link::{Place, TopicPart};
 use std::alloc::{AllocError, Global};
 
-fn is_there(place: &Place, part: &TopicPart) -> bool
-    ensures { result ≡ is_at (at_of part.now) (at_in place.now) }
+pub(crate) fn is_there(place: &Place, topic: &str, partition: i32) -> bool
+    ensures { result ≡ is_at (named_at topic.now partition) (at_in place.now) }
 {
-    part.topic.as_str() == place.topic.as_str()
-        && part.partition.unsigned_abs() == place.partition.unsigned_abs()
+    topic == place.topic.as_str() && partition.unsigned_abs() == place.partition.unsigned_abs()
 }
 
 /// The position of the partition among these places.
-fn position_of(kept: &[Place], part: &TopicPart) -> Option<i64>
-    ensures { result ≡ option_map pos (position_in (map place_of kept.now) (at_of part.now)) }
+pub(crate) fn position_of(kept: &[Place], topic: &str, partition: i32) -> Option<i64>
+    ensures { result ≡ option_map pos (position_in (map place_of kept.now) (named_at topic.now partition)) }
 {
     for place in kept {
-        if is_there(place, part) {
+        if is_there(place, topic, partition) {
             return Some(place.position);
         }
     }
@@ -36,7 +35,7 @@ fn put_new(
 ) -> Result<(), AllocError>
     ensures { OnOk result (map at_of news.new.items ≡ map at_of news.old.items ++ filter (is_new (map place_of kept.now)) (at_of part.now ∷ [])) }
 {
-    if position_of(kept, part).is_some() {
+    if position_of(kept, part.topic.as_str(), part.partition).is_some() {
         return Ok(());
     }
     news.push(copied(alloc, part)?)?;
@@ -70,7 +69,7 @@ fn put_known(
     ensures put { OnOk result (known.new.items ≡ known.old.items ++ known_at (position_in (map place_of kept.now) (at_of part.now)) offsets.now next ∷ []) }
     ensures next { IfOk result (λ n. n ≡ next_after (position_in (map place_of kept.now) (at_of part.now)) next) }
 {
-    match position_of(kept, part) {
+    match position_of(kept, part.topic.as_str(), part.partition) {
         Some(position) => {
             known.push(position)?;
             Ok(next)

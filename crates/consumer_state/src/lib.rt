@@ -6,7 +6,11 @@ mod consumer;
 mod fix;
 mod known;
 mod order;
+mod positions;
+mod seeking;
 mod topics;
 
 pub use assign::assign_parts;
 pub use consumer::Consumer;
+pub use positions::put_position;
+pub use seeking::{seek, seek_edge};

@@ -8,7 +8,7 @@ use Rattle.model.specs.state.Log.{Log, IsLog}
 use Rattle.model.specs.state.Forms.{Forms}
 use Rattle.model.specs.state.World.{Key, Consumer, World}
 use Rattle.model.specs.state.Entry.{Act, Batch, Call, Event, Question, Reply, Entry, Turn}
-use Rattle.model.specs.state.Entry.Act.{Create, Delete, Assign, Assignments, Records}
+use Rattle.model.specs.state.Entry.Act.{Create, Delete, Assign, Assignments, Records, Seek, SeekEdge, Subscription}
 use Rattle.model.specs.state.Entry.Call.{Ask, Of, Produce}
 use Rattle.model.specs.state.Entry.Event.{Reset, Looked}
 use Rattle.model.specs.step.Acts.{Acts, Live, Gone}
@@ -67,6 +67,16 @@ live_looks (call.Delete group name) key Delete is moment turn c a events b c2 (e
 live_looks (call.Delete group name) key Delete is moment turn c a events b c2 (e, same, inr wants) = absurd (cc wants.says)
 live_looks (call.Assignments group name) key Assignments is moment turn c a events b c2 (e, same, inl done) = absurd (cc done.says)
 live_looks (call.Assignments group name) key Assignments is moment turn c a events b c2 (e, same, inr wants) = absurd (cc wants.says)
+live_looks (call.Subscription group name) key Subscription is moment turn c a events b c2 (e, same, inl done) = absurd (cc done.says)
+live_looks (call.Subscription group name) key Subscription is moment turn c a events b c2 (e, same, inr wants) = absurd (cc wants.says)
+live_looks (call.Seek group name places) key (Seek news) is moment turn c a events b c2 (e, same, inl (inl (not, refused))) = absurd (cc refused.says)
+live_looks (call.Seek group name places) key (Seek news) is moment turn c a events b c2 (e, same, inl (inr (all, done))) = absurd (cc done.says)
+live_looks (call.Seek group name places) key (Seek news) is moment turn c a events b c2 (e, same, inr wants) = absurd (cc wants.says)
+live_looks (call.SeekEdge group name code parts) key (SeekEdge edge ats) is moment turn c a events b c2 (e, same, inl (not, inl refused)) = absurd (cc refused.says)
+live_looks (call.SeekEdge group name code parts) key (SeekEdge edge ats) is moment turn c a events b c2 (e, same, inl (not, inr wants)) = absurd (cc wants.says)
+live_looks (call.SeekEdge group name code parts) key (SeekEdge edge ats) is moment turn c a events b c2 (e, same, inr (all, inl done)) = (let x = done.2 in absurd (cc x.says))
+live_looks (call.SeekEdge group name code parts) key (SeekEdge edge ats) is moment turn c a events b c2 (e, same, inr (all, inr (inl wants))) = absurd (cc wants.says)
+live_looks (call.SeekEdge group name code parts) key (SeekEdge edge ats) is moment turn c a events b c2 (e, same, inr (all, inr (inr cut))) = (let x = cut.1 in absurd (cc x.says))
 live_looks (call.Assign group name parts) key (Assign ats) is moment turn c a events b c2 (e, same, inl (mode, inl refused)) = absurd (cc refused.says)
 live_looks (call.Assign group name parts) key (Assign ats) is moment turn c a events b c2 (e, same, inl (mode, inr wants)) = absurd (cc wants.says)
 live_looks (call.Assign group name parts) key (Assign ats) is moment turn c a events b c2 (e, same, inr (mode, inl (inl lacks))) = (let x = lacks.2 in absurd (cc x.says))

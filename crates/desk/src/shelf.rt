@@ -23,6 +23,9 @@ pub(crate) fn group_of(call: &Call) -> &str
         Call::Delete { group, .. } => group.as_str(),
         Call::Assign { group, .. } => group.as_str(),
         Call::Assignments { group, .. } => group.as_str(),
+        Call::Subscription { group, .. } => group.as_str(),
+        Call::Seek { group, .. } => group.as_str(),
+        Call::SeekEdge { group, .. } => group.as_str(),
         Call::Records { group, .. } => group.as_str(),
     }
 }
@@ -39,6 +42,9 @@ pub(crate) fn name_of(call: &Call) -> &str
         Call::Delete { instance, .. } => instance.as_str(),
         Call::Assign { instance, .. } => instance.as_str(),
         Call::Assignments { instance, .. } => instance.as_str(),
+        Call::Subscription { instance, .. } => instance.as_str(),
+        Call::Seek { instance, .. } => instance.as_str(),
+        Call::SeekEdge { instance, .. } => instance.as_str(),
         Call::Records { instance, .. } => instance.as_str(),
         _ => "",
     }

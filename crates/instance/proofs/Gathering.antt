@@ -1,18 +1,15 @@
 -- From what a link answers to asks to what came for the places asked from.
-use Rattle.std.proofs.Common.{◌≡◌, ℕ, ◌<◌, Bool, true, false, List, [], ◌∷◌, map, length, slice_index_or, refl, ap, sym, subst, ◌∙◌, arith, nat_lt, inl, inr}
-use Rattle.std.specs.Prelude.{◌⊎◌, Result, Ok, Err, IfOk, bytes_eq}
+use Rattle.std.proofs.Common.{◌≡◌, ℕ, ◌<◌, Bool, true, false, List, [], ◌∷◌, map, length, slice_index_or, refl, ap, sym, subst, ◌∙◌, arith, inl, inr}
+use Rattle.std.specs.Prelude.{◌⊎◌, Result, Ok, Err, IfOk}
 use Rattle.std.specs.List.{All, AllZip}
 use Rattle.std.proofs.lemmas.List.{get_or-map, length-map}
 use Rattle.std.proofs.lemmas.List.Elements.{All-map, All-nil, All-cons, All-head, All-tail}
-use Rattle.std.proofs.lemmas.Bool.Decides.{nat_tests}
-use Rattle.std.proofs.lemmas.Slice.Eq.{bytes_eq-Decides}
 use mathlib.Core.List.{IsPrefix}
 use Rattle.model.specs.state.Log.{TopicPart, is_at, Log, IsLog, Keeps, part_at, from}
 use Rattle.model.specs.step.Walk.{Place, Lot}
-use Rattle.model.specs.state.World.{IsInOrder, is_before}
+use Rattle.model.specs.state.World.{IsInOrder}
 use Rattle.model.specs.step.Hand.{AtHand}
 use Rattle.model.specs.step.Fixed.{HasPart}
-use Rattle.model.proofs.Walks.{same_from_is_at}
 use Rattle.model.proofs.Stretches.{keeps_itself}
 use Rattle.broker_link.specs.Fetching.{ask_at, row_of, AreAsks, AreGot, IsFetched, IsGot, HaveAsked}
 use Rattle.broker_link.specs.declared.fetch.FetchFrom.{FetchFrom}
@@ -21,30 +18,11 @@ use Rattle.broker_link.specs.declared.place.Place.{Place as CodePlace}
 use Rattle.instance.specs.Gathering.{asked, GotFrom, HaveAll, IsGotAt, IsHand, IsInside}
 use Rattle.instance.specs.Walk.{HasOffsets, lot_of, lots_of}
 use Rattle.broker_link.specs.Places.{place_of}
+use Rattle.consumer_state.proofs.PositionLemmas.{before_is_other}
 
 pub if_ok : {T E : Type 0} (r : Result T E) (P Q : T → Type 0) → ((x : T) → P x → Q x) → IfOk r P → IfOk r Q
 if_ok (Ok x) P Q f h = f x h
 if_ok (Err e) P Q f h = tt
-
-not_before_itself : (x : TopicPart) → is_before x x ≡ false
-not_before_itself x =
-    let e : bytes_eq x.topic x.topic ≡ true = (bytes_eq-Decides x.topic x.topic).1 refl in
-    let f : nat_lt x.partition x.partition ≡ false = grind (arith, nat_tests) in
-    rw (e, f) refl
-
-pub before_is_other : (x y : TopicPart) → is_before x y ≡ true → is_at x y ≡ false
-before_is_other x y before = go (is_at x y) refl
-  where
-    go : (b : Bool) → is_at x y ≡ b → is_at x y ≡ false
-    go true e = absurd (let itself : is_before x x ≡ true = ap (is_before x) (same_from_is_at x y e) ∙ before in cc (itself, not_before_itself x))
-    go false e = e
-
-pub after_is_other : (x y : TopicPart) → is_before x y ≡ true → is_at y x ≡ false
-after_is_other x y before = go (is_at y x) refl
-  where
-    go : (b : Bool) → is_at y x ≡ b → is_at y x ≡ false
-    go true e = absurd (let itself : is_before x x ≡ true = ap (is_before x) (sym (same_from_is_at y x e)) ∙ before in cc (itself, not_before_itself x))
-    go false e = e
 
 -- what holds of the places asked from holds of the asks
 of_asks : (P : TopicPart → Type 0) (asks : List FetchFrom) (places : List Place) → map asked asks ≡ places → All (λ place. P place.at) places → All (λ ask. P (ask_at ask)) asks

@@ -2,7 +2,7 @@
 use Rattle.std.proofs.Common.{◌≡◌, ℕ, ◌*◌, List, [], ◌∷◌, ◌++◌, map, length, min, refl, ap, sym, subst, ◌∙◌, inl, inr, arith, Option, Some}
 use Rattle.std.specs.Prelude.{◌⊎◌, option_map}
 use Rattle.std.proofs.lemmas.List.{map-append}
-use Rattle.model.specs.state.Log.{Log, Row}
+use Rattle.model.specs.state.Log.{Log}
 use Rattle.model.specs.step.Walk.{Place, Lot, Walked, unwalked, walk, turned}
 use Rattle.model.specs.state.World.{Key, Format, Consumer, touched, with_positions}
 use Rattle.model.specs.state.Entry.{Event}
@@ -22,6 +22,7 @@ use Rattle.rest_calls.specs.Views.{asked_of}
 use Rattle.rest_calls.specs.declared.call.Call.{Call}
 use Rattle.rest_calls.specs.declared.call.Call.TheVariants as calls
 use Rattle.rest_codes.specs.declared.response.Reply.{Reply as CodeReply}
+use Rattle.instance.specs.Telling.{AsksNothing}
 use Rattle.instance.specs.declared.event.Event.{Event as CodeEvent}
 use Rattle.instance.specs.declared.event.Outcome.{Outcome}
 use Rattle.broker_link.specs.declared.place.Place.{Place as CodePlace}
@@ -93,13 +94,7 @@ handed_failed now round formats timeout bound before after c events r b c2 e com
 handed_failed now round formats timeout bound before after c events r b c2 e comes (inr want) =
     inr (inl (record { why = NoMemory; links = tt; says = λ advertise key. ap (λ x. Some (response_in x)) want }))
 
--- another call is no look
-pub no_look : (call : Call) (key : Key) (formats : List Format) (timeout bound : Option ℕ) → asked_of call ≡ Of key (Records formats timeout bound)
-    → ((group instance : List ℕ) (accepts : _) (time most : Option ℕ) → call ≡ calls.Records group instance accepts time most → ⊥) → ⊥
-no_look (calls.Produce topic batch) key formats timeout bound is no_records = cc is
-no_look (calls.Ask question) key formats timeout bound is no_records = cc is
-no_look (calls.Create group name settings) key formats timeout bound is no_records = cc is
-no_look (calls.Delete group name) key formats timeout bound is no_records = cc is
-no_look (calls.Assign group name parts) key formats timeout bound is no_records = cc is
-no_look (calls.Assignments group name) key formats timeout bound is no_records = cc is
-no_look (calls.Records group name accepts time most) key formats timeout bound is no_records = no_records group name accepts time most refl
+-- a call that asks nothing is no look
+pub no_look : (call : Call) (key : Key) (formats : List Format) (timeout bound : Option ℕ) → asked_of call ≡ Of key (Records formats timeout bound) → AsksNothing call → ⊥
+no_look (calls.Records group name accepts time most) key formats timeout bound is asks = asks
+no_look call key formats timeout bound is asks = cc is

@@ -16,7 +16,7 @@ use Rattle.model.specs.history.Noted.{said_of, events_of, EndsInLook}
 use Rattle.model.specs.history.Causes.{IsRebalanced, IsPumped, has_looked, placed_in, Pumped}
 use Rattle.model.specs.history.Causes.Pumped.{Unpumped}
 use Rattle.model.specs.history.Legal.{is_fault, is_refusal}
-use Rattle.model.specs.step.Fixed.{HasPart, SameCommits}
+use Rattle.model.specs.step.Fixed.{SameCommits}
 use Rattle.model.specs.step.Produced.{NoneAdded}
 use Rattle.model.specs.step.Look.{IsCut_off, IsWalked, LookEnds, Looks, Sends, SetBack, after_events, allows, with_assignment, at_most, is_due, moved, rotation_behind}
 use Rattle.model.proofs.Stretches.{keeps_itself}
@@ -46,7 +46,7 @@ use Rattle.consumer_state.specs.Views.{consumer_of, mode_of}
 use Rattle.instance.specs.Views.{event_of, events_in, said_in}
 use Rattle.instance.proofs.Gathering.{at_hand}
 use Rattle.instance.proofs.Moving.{ats_moved}
-use Rattle.instance.proofs.Setting.{ats_set_all, have_set}
+use Rattle.consumer_state.proofs.PositionLemmas.{ats_set_all, have_set}
 
 -- ---- the events
 

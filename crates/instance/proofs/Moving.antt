@@ -1,14 +1,13 @@
 -- Positions behind one more row, and the consumer behind all rows that were taken.
-use Rattle.std.proofs.Common.{◌≡◌, ℕ, zero, suc, ◌+◌, ◌-◌, ◌%◌, ◌<◌, ◌≤◌, Bool, true, false, List, [], ◌∷◌, ◌++◌, map, length, take, set, slice_index_or, refl, ap, sym, subst, ◌∙◌, arith, Some}
-use Rattle.std.specs.Prelude.{◌^◌, nat_abs}
+use Rattle.std.proofs.Common.{◌≡◌, ℕ, zero, suc, ◌+◌, ◌-◌, ◌%◌, ◌<◌, ◌≤◌, Bool, true, false, List, [], ◌∷◌, ◌++◌, map, length, take, set, slice_index_or, refl, ap, sym, ◌∙◌, arith, Some}
+use Rattle.std.specs.Prelude.{nat_abs}
 use Rattle.std.specs.List.{filter}
-use Rattle.std.proofs.lemmas.List.{get_or-map, map-set, map_more, length-map}
+use Rattle.std.proofs.lemmas.List.{get_or-map, map_more, length-map}
 use Rattle.model.specs.state.Log.{TopicPart, is_at, Row, after}
 use Rattle.model.specs.step.Walk.{Place, Lot, Item, rows_at}
-use Rattle.std.proofs.lemmas.List.Elements.{All-cons, All-head, All-tail}
-use Rattle.model.specs.state.World.{IsLow, IsApart, IsInOrder, Consumer, Mode, moved_places, place_behind, last_at}
+use Rattle.model.specs.state.World.{IsApart, IsInOrder, Consumer, moved_places, place_behind, last_at}
 use Rattle.model.specs.step.Events.{moved, or_taken, rotation_behind}
-use Rattle.model.proofs.Walks.{same_from_is_at, is_at_itself, rows_at-push_same, rows_at-push_other}
+use Rattle.model.proofs.Walks.{is_at_itself, rows_at-push_same, rows_at-push_other}
 use Rattle.model.proofs.Moves.{apart_from_order}
 use Rattle.broker_link.specs.Fetching.{row_of}
 use Rattle.broker_link.specs.declared.link.Stored.{Stored}
@@ -17,7 +16,9 @@ use Rattle.broker_link.specs.declared.place.Place.{Place as CodePlace}
 use Rattle.instance.specs.declared.walk.Pick.{Pick}
 use Rattle.broker_link.specs.Places.{at_in, place_of}
 use Rattle.consumer_state.specs.Views.{mode_of}
-use Rattle.instance.specs.Walk.{lots_of, item_in, IsPick, stored_in, put_at}
+use Rattle.instance.specs.Walk.{lots_of, item_in, IsPick, stored_in}
+use Rattle.consumer_state.specs.Positions.{set_at}
+use Rattle.consumer_state.proofs.PositionLemmas.{order_kept, other_way, set_at_is}
 use Rattle.instance.proofs.Picking.{item_is, pick_within}
 
 abbrev many : TopicPart → List Place → ℕ
@@ -31,13 +32,6 @@ after_push : (rows : List Row) (row : Row) (p : ℕ) → after (rows ++ row ∷ 
 after_push [] row p = refl
 after_push (r ∷ rows) row p = after_push rows row (r.offset + 1)
 
-is_at_other : (x y : TopicPart) → is_at x y ≡ false → is_at y x ≡ false
-is_at_other x y e = go (is_at y x) refl
-  where
-    go : (b : Bool) → is_at y x ≡ b → is_at y x ≡ false
-    go true f = absurd (cc (e, sym (is_at_itself x) ∙ ap (is_at x) (sym (same_from_is_at y x f))))
-    go false f = f
-
 moved_elsewhere : (items : List Item) (item : Item) (places : List Place) → many item.at places ≡ 0 → moved_places (items ++ item ∷ []) places ≡ moved_places items places
 moved_elsewhere items item [] none = refl
 moved_elsewhere items item (place ∷ places) none = go (is_at item.at place.at) refl (moved_elsewhere items item places)
@@ -46,7 +40,7 @@ moved_elsewhere items item (place ∷ places) none = go (is_at item.at place.at)
         → moved_places (items ++ item ∷ []) (place ∷ places) ≡ moved_places items (place ∷ places)
     go true e rest = absurd (omega (arith, rw e at none))
     go false e rest =
-        let same : rows_at place.at (items ++ item ∷ []) ≡ rows_at place.at items = rows_at-push_other place.at items item (is_at_other item.at place.at e) in
+        let same : rows_at place.at (items ++ item ∷ []) ≡ rows_at place.at items = rows_at-push_other place.at items item (other_way item.at place.at e) in
         ap (λ rs. record { at = place.at; position = after rs place.position } ∷ moved_places (items ++ item ∷ []) places) same
         ∙ ap (λ ps. record { at = place.at; position = after (rows_at place.at items) place.position } ∷ ps) (rest (rw e at none))
 
@@ -83,7 +77,7 @@ moved_push items item (place ∷ places) (suc k) d lt is one = go (is_at item.at
         → moved_places (items ++ item ∷ []) (place ∷ places) ≡ set (moved_places items (place ∷ places)) (suc k) (record { at = item.at; position = item.row.offset + 1 })
     go true e rest = absurd (let le : suc (many item.at places) ≤ 1 = rw e at one in omega (arith, there))
     go false e rest =
-        let same : rows_at place.at (items ++ item ∷ []) ≡ rows_at place.at items = rows_at-push_other place.at items item (is_at_other item.at place.at e) in
+        let same : rows_at place.at (items ++ item ∷ []) ≡ rows_at place.at items = rows_at-push_other place.at items item (other_way item.at place.at e) in
         ap (λ rs. record { at = place.at; position = after rs place.position } ∷ moved_places (items ++ item ∷ []) places) same
         ∙ ap (λ ps. record { at = place.at; position = after (rows_at place.at items) place.position } ∷ ps) (rest (rw e at one))
 
@@ -96,38 +90,12 @@ pub length-moved : (items : List Item) (places : List Place) → length (moved_p
 length-moved items [] = refl
 length-moved items (place ∷ places) = ap suc (length-moved items places)
 
-pub put_at_is : (places : List Place) (k n : ℕ) (d : Place) → put_at places k n ≡ set places k (record { at = (slice_index_or places k d).at; position = n })
-put_at_is [] k n d = refl
-put_at_is (place ∷ places) zero n d = refl
-put_at_is (place ∷ places) (suc k) n d = ap (λ ps. place ∷ ps) (put_at_is places k n d)
-
-pub length-put_at : (places : List Place) (k n : ℕ) → length (put_at places k n) ≡ length places
-length-put_at [] k n = refl
-length-put_at (place ∷ places) zero n = refl
-length-put_at (place ∷ places) (suc k) n = ap suc (length-put_at places k n)
-
--- positions stay below 2^63 where one of them is set below
-pub low_put : (places : List Place) (k n : ℕ) → IsLow places → n < 2 ^ 63 → IsLow (put_at places k n)
-low_put [] k n h lt = h
-low_put (place ∷ places) zero n h lt = All-cons (λ (p : Place). p.position < 2 ^ 63) (record { at = place.at; position = n }) places lt (All-tail (λ (p : Place). p.position < 2 ^ 63) place places h)
-low_put (place ∷ places) (suc k) n h lt =
-    All-cons (λ (p : Place). p.position < 2 ^ 63) place (put_at places k n) (All-head (λ (p : Place). p.position < 2 ^ 63) place places h) (low_put places k n (All-tail (λ (p : Place). p.position < 2 ^ 63) place places h) lt)
-
--- a place that is written back with another position
-pub put_is : (places : List CodePlace) (k n : ℕ) (here new : CodePlace) → k < length places → here ≡ slice_index_or places k here → at_in new ≡ at_in here → nat_abs new.position ≡ n
-    → map place_of (set places k new) ≡ put_at (map place_of places) k n
-put_is places k n here new lt is same position =
-    let there : (slice_index_or (map place_of places) k (place_of here)).at ≡ at_in here = ap (λ (x : Place). x.at) (get_or-map place_of places k here (place_of here) lt) ∙ ap at_in (sym is) in
-    let new_is : place_of new ≡ record { at = (slice_index_or (map place_of places) k (place_of here)).at; position = n } =
-    ap (λ x. record { at = x; position = nat_abs new.position }) (same ∙ sym there) ∙ ap (λ m. record { at = (slice_index_or (map place_of places) k (place_of here)).at; position = m }) position in
-    map-set place_of places k new ∙ (ap (set (map place_of places) k) new_is ∙ sym (put_at_is (map place_of places) k n (place_of here)))
-
 -- one pick more, written back where it was picked; `s` is the record that it names
 pub advance_more : (old now new : List CodePlace) (fetched : List Fetched) (picks : List Pick) (i : ℕ) (p d : Pick) (s : Stored) (next : ℕ)
     → length fetched ≡ length old → IsApart (map place_of old) → i < length picks → p ≡ slice_index_or picks i d → IsPick (lots_of old fetched) p
     → s ≡ stored_in fetched p → next ≡ nat_abs s.offset + 1
     → map place_of now ≡ moved_places (map (item_in (lots_of old fetched)) (take i picks)) (map place_of old)
-    → map place_of new ≡ put_at (map place_of now) p.lot next
+    → map place_of new ≡ set_at (map place_of now) p.lot next
     → map place_of new ≡ moved_places (map (item_in (lots_of old fetched)) (take (i + 1) picks)) (map place_of old)
 advance_more old now new fetched picks i p d s next same apart lt is pick stored next_is inv put = go old refl
   where
@@ -146,9 +114,9 @@ advance_more old now new fetched picks i p d s next same apart lt is pick stored
         let at_now : (slice_index_or (moved_places items ps) k (place_of x)).at ≡ item.at = moved_at items ps k (place_of x) fits ∙ at_old in
         let offset : next ≡ item.row.offset + 1 = next_is ∙ (ap (λ (y : Stored). nat_abs y.offset + 1) stored ∙ ap (λ (y : Item). y.row.offset + 1) (sym item_here)) in
         let more : map (item_in lots) (take (i + 1) picks) ≡ items ++ item ∷ [] = map_more (item_in lots) picks i d lt ∙ ap (λ (q : Pick). items ++ item_in lots q ∷ []) (sym is) in
-        let written : put_at (moved_places items ps) k next ≡ set (moved_places items ps) k (record { at = item.at; position = item.row.offset + 1 }) =
-        put_at_is (moved_places items ps) k next (place_of x) ∙ (ap (λ y. set (moved_places items ps) k (record { at = y; position = next })) at_now ∙ ap (λ n. set (moved_places items ps) k (record { at = item.at; position = n })) offset) in
-        put ∙ (ap (λ ys. put_at ys k next) inv ∙ (written ∙ (sym (moved_push items item ps k (place_of x) fits at_old (apart item.at)) ∙ ap (λ ys. moved_places ys ps) (sym more))))
+        let written : set_at (moved_places items ps) k next ≡ set (moved_places items ps) k (record { at = item.at; position = item.row.offset + 1 }) =
+        set_at_is (moved_places items ps) k next (place_of x) ∙ (ap (λ y. set (moved_places items ps) k (record { at = y; position = next })) at_now ∙ ap (λ n. set (moved_places items ps) k (record { at = item.at; position = n })) offset) in
+        put ∙ (ap (λ ys. set_at ys k next) inv ∙ (written ∙ (sym (moved_push items item ps k (place_of x) fits at_old (apart item.at)) ∙ ap (λ ys. moved_places ys ps) (sym more))))
 
 last_is : (lots : List Lot) (picks : List Pick) (d : Pick) → 0 < length picks → last_at (map (item_in lots) picks) ≡ Some (item_in lots (slice_index_or picks (length picks - 1) d)).at
 last_is lots [] d lt = absurd (omega arith)
@@ -179,16 +147,6 @@ or_taken_is (item ∷ items) unsaved lt = refl
 pub mode_moved : (items : List Item) (places : List Place) → mode_of (moved_places items places) ≡ mode_of places
 mode_moved items [] = refl
 mode_moved items (place ∷ places) = refl
-
--- places with the same partitions are in the same order
-pub order_kept : (xs ys : List Place) → map (λ (p : Place). p.at) ys ≡ map (λ (p : Place). p.at) xs → IsInOrder xs → IsInOrder ys
-order_kept xs ys same order =
-    λ i j d lt lt'.
-    let n : length ys ≡ length xs = omega (arith, ap length same, length-map xs (λ (p : Place). p.at), length-map ys (λ (p : Place). p.at)) in
-    let there : (k : ℕ) → k < length ys → (slice_index_or ys k d).at ≡ (slice_index_or xs k d).at =
-    λ k fits. sym (get_or-map (λ (p : Place). p.at) ys k d d.at fits) ∙ (ap (λ ats. slice_index_or ats k d.at) same ∙ get_or-map (λ (p : Place). p.at) xs k d d.at (omega arith)) in
-    subst (λ x. Rattle.model.specs.state.World.is_before x (slice_index_or ys j d).at ≡ true) (sym (there i (omega arith)))
-    (subst (λ x. Rattle.model.specs.state.World.is_before (slice_index_or xs i d).at x ≡ true) (sym (there j (omega arith))) (order i j d lt (omega arith)))
 
 pub ats_moved : (items : List Item) (places : List Place) → map (λ (p : Place). p.at) (moved_places items places) ≡ map (λ (p : Place). p.at) places
 ats_moved items [] = refl

@@ -1,9 +1,8 @@
 -- What picks name, and the text of what they name.
-use Rattle.std.proofs.Common.{◌≡◌, ℕ, zero, suc, ◌+◌, ◌<◌, ◌≤◌, true, false, cond, List, [], ◌∷◌, ◌++◌, map, length, take, slice_index_or, refl, ap, sym, ◌∙◌, arith, append_assoc, None}
-use Rattle.std.specs.Prelude.{codes, ◌==◌, nat_abs, pos, ℤ, decimal}
-use Rattle.std.proofs.lemmas.List.{get_or-map, length-map, length-take, map_more, take_all}
-use Rattle.json.specs.Print.{quoted}
-use Rattle.model.specs.state.Log.{TopicPart, Row}
+use Rattle.std.proofs.Common.{◌≡◌, ℕ, zero, suc, ◌<◌, false, List, [], ◌∷◌, length, slice_index_or, refl, ap, sym, ◌∙◌, arith, None}
+use Rattle.std.specs.Prelude.{nat_abs, pos, ℤ}
+use Rattle.std.proofs.lemmas.List.{get_or-map, length-map}
+use Rattle.model.specs.state.Log.{Row}
 use Rattle.model.specs.step.Walk.{Lot, Item}
 use Rattle.broker_link.specs.Fetching.{row_of}
 use Rattle.broker_link.specs.declared.link.Stored.{Stored}

@@ -1,45 +1,23 @@
 -- Positions that are set back, in the model's terms, and where they then lie.
-use Rattle.std.proofs.Common.{◌≡◌, suc, ◌<◌, Bool, true, false, List, [], ◌∷◌, map, length, slice_index_or, refl, ap, sym, subst, ◌∙◌, arith, Option, Some, None, ℤ}
+use Rattle.std.proofs.Common.{◌≡◌, false, List, [], ◌∷◌, map, slice_index_or, refl, ap, sym, subst, ◌∙◌, arith, Option, Some, None, ℤ}
 use Rattle.std.specs.Prelude.{nat_abs}
-use Rattle.std.specs.List.{All, AllPairs, AllZip}
-use Rattle.std.proofs.lemmas.List.{get_or-map, length-map}
+use Rattle.std.specs.List.{All, AllZip}
 use Rattle.std.proofs.lemmas.List.Elements.{All-nil, All-cons, All-head, All-tail}
 use Rattle.std.proofs.lemmas.List.Kept.{AllPairs-cons}
 use Rattle.model.specs.state.Log.{TopicPart, is_at, Log, IsLog, Keeps}
 use Rattle.model.specs.step.Walk.{Place}
 use Rattle.model.specs.state.World.{Edge, IsInOrder, position_in, with_position, with_positions}
 use Rattle.model.specs.state.World.Edge.{Start, End}
-use Rattle.model.specs.step.Fixed.{Edges, HasPart, IsOutside, Resets, edge_of}
+use Rattle.model.specs.step.Fixed.{Edges, IsOutside, Resets, edge_of}
 use Rattle.model.specs.step.Look.{SetBack}
-use Rattle.model.proofs.Walks.{same_from_is_at, is_at_itself, is_then, is_else}
+use Rattle.model.proofs.Walks.{is_at_itself, is_then, is_else}
 use Rattle.model.proofs.Stretches.{keeps_on}
 use Rattle.broker_link.specs.declared.fetch.Fetched.{Fetched}
 use Rattle.instance.specs.declared.event.Event.{Event as CodeEvent}
 use Rattle.instance.specs.Ending.{own_of}
-use Rattle.instance.specs.Gathering.{AreSet, AreTold, EdgesTold, GotFrom, HaveAll, IsGotAt, IsInside, SetsBack, news_of, put_all}
-use Rattle.instance.proofs.Gathering.{before_is_other}
+use Rattle.instance.specs.Gathering.{AreSet, AreTold, EdgesTold, GotFrom, IsGotAt, IsInside, SetsBack, news_of, put_all}
 use Rattle.instance.proofs.Resetting.{told_on}
-use Rattle.instance.proofs.Moving.{order_kept}
-use Rattle.consumer_state.proofs.Fixing.{has_part_later}
-
-abbrev Apart : List Place → Type 0
-Apart ps = AllPairs (λ (p q : Place). is_at p.at q.at ≡ false) ps
-
-apart_of : (ps : List Place) → IsInOrder ps → Apart ps
-apart_of ps order = λ i j d lt lt'. before_is_other (slice_index_or ps i d).at (slice_index_or ps j d).at (order i j d lt lt')
-
-apart_tail : (p : Place) (ps : List Place) → Apart (p ∷ ps) → Apart ps
-apart_tail p ps h = λ i j d lt lt'. h (suc i) (suc j) d (omega arith) (omega arith)
-
-apart_head : (p : Place) (ps : List Place) → Apart (p ∷ ps) → All (λ (q : Place). is_at p.at q.at ≡ false) ps
-apart_head p ps h = λ k d lt. h 0 (suc k) d (omega arith) (omega arith)
-
-other_way : (x y : TopicPart) → is_at x y ≡ false → is_at y x ≡ false
-other_way x y e = go (is_at y x) refl
-  where
-    go : (b : Bool) → is_at y x ≡ b → is_at y x ≡ false
-    go true f = absurd (cc (e, sym (is_at_itself x) ∙ ap (is_at x) (sym (same_from_is_at y x f))))
-    go false f = f
+use Rattle.consumer_state.proofs.PositionLemmas.{Apart, apart_head, apart_of, apart_tail, other_way, skip_one}
 
 -- what holds of the partitions of the places holds of those that were told a position
 news_all : (P : TopicPart → Type 0) (ps : List Place) (os : List (Option ℤ)) → All (λ (p : Place). P p.at) ps → All (λ (p : Place). P p.at) (news_of ps os)
@@ -55,12 +33,6 @@ once (p ∷ ps) [] h = λ i j d lt lt'. absurd (omega arith)
 once (p ∷ ps) (None ∷ os) h = once ps os (apart_tail p ps h)
 once (p ∷ ps) (Some n ∷ os) h =
     AllPairs-cons (λ (x y : Place). is_at x.at y.at ≡ false) (record { at = p.at; position = nat_abs n }) (news_of ps os) (news_all (λ at. is_at p.at at ≡ false) ps os (apart_head p ps h)) (once ps os (apart_tail p ps h))
-
-skip_one : (new : Place) (ps : List Place) → All (λ (p : Place). is_at new.at p.at ≡ false) ps → with_position new ps ≡ ps
-skip_one new [] h = refl
-skip_one new (p ∷ ps) h =
-    let e : is_at new.at p.at ≡ false = All-head (λ (p : Place). is_at new.at p.at ≡ false) p ps h in
-    ap (λ x. x ∷ with_position new ps) (is_else (is_at new.at p.at) new p e) ∙ ap (λ xs. p ∷ xs) (skip_one new ps (All-tail (λ (p : Place). is_at new.at p.at ≡ false) p ps h))
 
 skip_all : (news : List Place) (p : Place) (ps : List Place) → All (λ (n : Place). is_at n.at p.at ≡ false) news → with_positions news (p ∷ ps) ≡ p ∷ with_positions news ps
 skip_all [] p ps h = refl
@@ -167,32 +139,6 @@ pub set_inside : (t2 : Type 0) (edge : Edge) (s m b : Log) (places : List Place)
     → t2 → IsLog s → GotFrom s places fetched → Keeps s m → Keeps m b → AreSet t2 edge s places fetched events m places2 → All (IsInside b) places2
 set_inside t2 edge s m b places fetched events places2 t log got keeps on set =
     subst (All (IsInside b)) (sym set.put) (inside_after edge s s b places fetched set.told got.each set.are (keeps_on s m b keeps on) (told_on edge s places set.told m b (set.edges t log) on))
-
--- the same partitions
-ats_set : (new : Place) (ps : List Place) → map (λ (p : Place). p.at) (with_position new ps) ≡ map (λ (p : Place). p.at) ps
-ats_set new [] = refl
-ats_set new (p ∷ ps) = go (is_at new.at p.at) refl (ats_set new ps)
-  where
-    go : (b : Bool) → is_at new.at p.at ≡ b → map (λ (p : Place). p.at) (with_position new ps) ≡ map (λ (p : Place). p.at) ps → map (λ (p : Place). p.at) (with_position new (p ∷ ps)) ≡ map (λ (p : Place). p.at) (p ∷ ps)
-    go true e rest = ap (λ (x : Place). x.at ∷ map (λ (p : Place). p.at) (with_position new ps)) (is_then (is_at new.at p.at) new p e) ∙ (ap (λ (at : TopicPart). at ∷ map (λ (p : Place). p.at) (with_position new ps)) (same_from_is_at new.at p.at e) ∙ ap (λ ats. p.at ∷ ats) rest)
-    go false e rest = ap (λ (x : Place). x.at ∷ map (λ (p : Place). p.at) (with_position new ps)) (is_else (is_at new.at p.at) new p e) ∙ ap (λ ats. p.at ∷ ats) rest
-
-pub ats_set_all : (news ps : List Place) → map (λ (p : Place). p.at) (with_positions news ps) ≡ map (λ (p : Place). p.at) ps
-ats_set_all [] ps = refl
-ats_set_all (n ∷ ns) ps = ats_set_all ns (with_position n ps) ∙ ats_set n ps
-
--- places that were set stand in the same order
-pub order_set : (places news places2 : List Place) → places2 ≡ with_positions news places → IsInOrder places → IsInOrder places2
-order_set places news places2 is order = order_kept places places2 (ap (map (λ (p : Place). p.at)) is ∙ ats_set_all news places) order
-
--- and are in the topics of a later log
-pub have_set : (a b : Log) (places places2 : List Place) → Keeps a b → map (λ (p : Place). p.at) places2 ≡ map (λ (p : Place). p.at) places → HaveAll a places → HaveAll b places2
-have_set a b places places2 keeps same have = λ k d lt.
-    let long : length places2 ≡ length places = omega (arith, ap length same, length-map places (λ (p : Place). p.at), length-map places2 (λ (p : Place). p.at)) in
-    let fits : k < length places = omega (arith, lt, long) in
-    let there : (slice_index_or places k d).at ≡ (slice_index_or places2 k d).at =
-    sym (get_or-map (λ (p : Place). p.at) places k d d.at fits) ∙ (ap (λ (ats : List TopicPart). slice_index_or ats k d.at) (sym same) ∙ get_or-map (λ (p : Place). p.at) places2 k d d.at lt) in
-    subst (HasPart b) there (has_part_later a b (slice_index_or places k d).at keeps (have k d fits))
 
 pub set_is : (t2 : Type 0) (edge : Edge) (s m : Log) (places : List Place) (fetched : List Fetched) (events : List CodeEvent) (places2 : List Place) → IsInOrder places
     → (set : AreSet t2 edge s places fetched events m places2) → places2 ≡ with_positions (news_of places set.told) places

@@ -12,7 +12,7 @@ use Rattle.broker_link.specs.Fetching.{ask_at, AreAsks, AreInTurn, rows_in, rows
 use Rattle.broker_link.specs.declared.fetch.FetchFrom.{FetchFrom}
 use Rattle.broker_link.specs.declared.fetch.Fetched.{Fetched}
 use Rattle.instance.specs.Gathering.{AreGiven, asked, GotFrom, IsGotAt}
-use Rattle.instance.proofs.Gathering.{before_is_other, after_is_other}
+use Rattle.consumer_state.proofs.PositionLemmas.{before_is_other, after_is_other}
 
 pub length_turned : {A : Type 0} (k : ℕ) (xs : List A) → length (turned k xs) ≡ length xs
 length_turned k xs = omega (arith, length-append (drop k xs) (take k xs), length-append (take k xs) (drop k xs), ap length (take-append-drop k xs))

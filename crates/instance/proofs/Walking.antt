@@ -1,9 +1,9 @@
 -- From one row or lot of a walk to the next, and from two ranges to once round.
 use Rattle.std.proofs.Common.{◌≡◌, ℕ, zero, suc, ◌+◌, ◌-◌, ◌++◌, take, ◌<◌, ◌≤◌, ◌&&◌, ◌||◌, Bool, true, false, nat_le, nat_lt, List, [], ◌∷◌, map, length, drop, slice_index_or, refl, ap, sym, ◌∙◌, arith, append_assoc, cond, subst, Option, Some, None}
 use Rattle.std.specs.Prelude.{codes, option_map, string_bytes, is_some, IfSome, ◌==◌, Ok}
-use Rattle.std.proofs.lemmas.List.{drop_more, take_rest, get_or-map, length-map, map_push}
+use Rattle.std.proofs.lemmas.List.{drop_more, take_rest, length-map, map_push}
 use Rattle.std.proofs.lemmas.List.Sums.{sum_by_push}
-use Rattle.model.specs.state.Log.{TopicPart, Row}
+use Rattle.model.specs.state.Log.{Row}
 use Rattle.model.specs.state.World.{Format as Shown}
 use Rattle.model.specs.state.Forms.{reason_of}
 use Rattle.model.specs.texts.Bodies.{array, item_text, joined}

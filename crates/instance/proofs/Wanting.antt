@@ -6,7 +6,7 @@ use Rattle.model.specs.step.Walk.{Place}
 use Rattle.model.specs.state.World.{Key, Format, Consumer, touched}
 use Rattle.model.specs.state.World.Mode.{ByTopics}
 use Rattle.model.specs.state.Entry.{Act, Turn}
-use Rattle.model.specs.state.Entry.Act.{Create, Delete, Assign, Assignments, Records}
+use Rattle.model.specs.state.Entry.Act.{Create, Delete, Assign, Assignments, Records, Seek, SeekEdge, Subscription}
 use Rattle.model.specs.state.Entry.Call.{Of}
 use Rattle.model.specs.state.Entry.Reply.{Want}
 use Rattle.model.specs.step.Fixed.{SameCommits}
@@ -24,6 +24,7 @@ use Rattle.model.specs.texts.Texts.Response.{Wanting}
 use Rattle.rest_replies.specs.Forms.{forms}
 use Rattle.consumer_state.specs.Assign.{ActsSo, totals}
 use Rattle.broker_link.specs.Places.{place_of}
+use Rattle.consumer_state.proofs.SeekLemmas.{edge_wanting}
 use Rattle.consumer_state.specs.Views.{mode_of, consumer_of}
 use Rattle.instance.specs.Views.{Live as Seen, event_of}
 use Rattle.consumer_state.specs.declared.consumer.Consumer.{Consumer as Kept}
@@ -79,6 +80,9 @@ wanting (call.Create group name settings) key (Create s) is moment turn c a off 
 wanting (call.Delete group name) key Delete is moment turn c a off mode log = (refl, inl (not_due c 0 off, same a), inr (record { says = refl; left = refl }))
 wanting (call.Assign group name parts) key (Assign ats) is moment turn c a off mode log = (refl, same a, inr (mode, inr (inl (record { says = refl; left = refl }))))
 wanting (call.Assignments group name) key Assignments is moment turn c a off mode log = (refl, same a, inr (record { says = refl; left = refl }))
+wanting (call.Subscription group name) key Subscription is moment turn c a off mode log = (refl, same a, inr (record { says = refl; left = refl }))
+wanting (call.Seek group name places) key (Seek news) is moment turn c a off mode log = (refl, same a, inr (record { says = refl; left = refl }))
+wanting (call.SeekEdge group name code parts) key (SeekEdge edge ats) is moment turn c a off mode log = (refl, same a, edge_wanting moment edge ats c a a)
 wanting (call.Records group name accepts timeout bound) key (Records formats t b) is moment turn c a off mode log = wanting_looks key moment turn formats t b c a off log (allows formats c.settings.format) refl
 wanting call key act is moment turn c a off mode log = absurd (cc is)
 
@@ -89,6 +93,9 @@ unpumped (call.Create group name settings) key (Create s) is before after c mode
 unpumped (call.Delete group name) key Delete is before after c mode = tt
 unpumped (call.Assign group name parts) key (Assign ats) is before after c mode = tt
 unpumped (call.Assignments group name) key Assignments is before after c mode = tt
+unpumped (call.Subscription group name) key Subscription is before after c mode = tt
+unpumped (call.Seek group name places) key (Seek news) is before after c mode = tt
+unpumped (call.SeekEdge group name code parts) key (SeekEdge edge ats) is before after c mode = tt
 unpumped (call.Records group name accepts timeout bound) key (Records formats t b) is before after c mode =
     record { pumped = Unpumped; pump = record { pumps = λ by reached. absurd (mode by); quiet = λ other. refl; steady = λ e. absurd (cc e); not_yet = λ e. absurd (cc e); lost = λ e. absurd (cc e); shared = λ ats e. absurd (cc e) }; ties = λ ats e. absurd (cc e); places = λ looked. (refl, λ e. absurd (cc e)) }
 unpumped call key act is before after c mode = absurd (cc is)

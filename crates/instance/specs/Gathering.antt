@@ -13,7 +13,7 @@ use Rattle.broker_link.specs.Fetching.{IsEdge, row_of, rows_in_turn}
 use Rattle.broker_link.specs.declared.fetch.Fetched.{Fetched}
 use Rattle.instance.specs.declared.event.Event.{Event as CodeEvent}
 use Rattle.instance.specs.Ending.{own_of}
-use Rattle.instance.specs.Walk.{put_at}
+use Rattle.consumer_state.specs.Positions.{set_at}
 
 -- the position lies from the start to the end of its partition
 abbrev pub IsInside : Log → Place → Type 0
@@ -73,7 +73,7 @@ pub record SetsBack (tells : Type 0) (reset : Edge) (a : Log) (places : List Pla
 -- one position told or not
 abbrev pub put_maybe : List Place → ℕ → Option ℤ → List Place
 put_maybe places i None = places
-put_maybe places i (Some position) = put_at places i (nat_abs position)
+put_maybe places i (Some position) = set_at places i (nat_abs position)
 
 -- a position that was told isn't below 0
 abbrev pub IsLowIf : Option ℤ → Type 0

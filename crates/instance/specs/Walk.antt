@@ -1,7 +1,7 @@
 -- What a fetch brought, as the lots of the model's walk (Apache Kafka protocol guide, Fetch; Confluent REST Proxy API v2, consumer records).
-use Rattle.std.specs.Prelude.{ℕ, zero, suc, ◌+◌, ◌++◌, ◌<◌, ◌≡◌, ◌^◌, ◌||◌, ⊤, nat_le, nat_lt, pos, Bool, true, false, cond, codes, List, [], ◌∷◌, map, length, slice_index_or, string_bytes, All, IfSome, None, Some, Result, Ok, Err, option_map}
+use Rattle.std.specs.Prelude.{ℕ, ◌+◌, ◌++◌, ◌<◌, ◌≡◌, ◌^◌, ◌||◌, ⊤, nat_le, nat_lt, pos, Bool, true, false, cond, codes, List, [], ◌∷◌, map, length, slice_index_or, string_bytes, All, IfSome, None, Some, Result, Ok, Err, option_map}
 use Rattle.std.specs.declared.alloc.AllocError.{AllocError}
-use Rattle.model.specs.step.Walk.{Place, Lot, Item, Rule, Walked, bytes_of, walk_part}
+use Rattle.model.specs.step.Walk.{Lot, Item, Rule, Walked, bytes_of, walk_part}
 use Rattle.model.specs.state.Log.{Row}
 use Rattle.model.specs.state.World.{Format as Shown}
 use Rattle.model.specs.texts.Bodies.{item_text, joined}
@@ -93,9 +93,3 @@ stored_in fetched p = slice_index_or (slice_index_or fetched p.lot (record { row
 -- the pick names one
 abbrev pub HasRow : List Fetched → Pick → Type 0
 HasRow fetched p = (p.lot < length fetched) × (p.row < length (slice_index_or fetched p.lot (record { rows = []; end = pos 0; out_of_range = false })).rows)
-
--- the position of one place of the list set
-abbrev pub put_at : List Place → ℕ → ℕ → List Place
-put_at [] i position = []
-put_at (place ∷ places) zero position = record { at = place.at; position = position } ∷ places
-put_at (place ∷ places) (suc i) position = place ∷ put_at places i position

@@ -17,11 +17,11 @@ ghost use Rattle.instance.specs.Views.{events_in, said_in};
 use crate::Outcome;
 use crate::look::look;
 use broker_link::Link;
-use consumer_state::{Consumer, assign_parts};
+use consumer_state::{Consumer, assign_parts, seek, seek_edge};
 use gate_io::{Text, Want};
 use rest_calls::{Call, Settings};
 use rest_codes::Reply;
-use rest_replies::{listed, refused};
+use rest_replies::{listed, no_subscription, refused};
 use std::alloc::{AllocError, Global};
 use std::marker::Model;
 
@@ -52,6 +52,7 @@ fn told(alloc: Global, consumer: &Consumer, call: &Call) -> Reply
         Call::Create { .. } => refused(alloc, 40902),
         Call::Delete { .. } => Reply::Empty,
         Call::Assignments { .. } => listed(alloc, consumer.assignment.as_slice()),
+        Call::Subscription { .. } => no_subscription(alloc),
         _ => Reply::Want,
     }
 }
@@ -149,6 +150,21 @@ impl Instance {
                     link,
                     now,
                     self.group.as_str(),
+                    parts.as_slice(),
+                ),
+            ),
+            Call::Seek { places, .. } => Outcome::of_reply(
+                alloc,
+                seek(&mut self.consumer, alloc, now, places.as_slice()),
+            ),
+            Call::SeekEdge { edge, parts, .. } => Outcome::of_reply(
+                alloc,
+                seek_edge(
+                    &mut self.consumer,
+                    alloc,
+                    link,
+                    now,
+                    *edge,
                     parts.as_slice(),
                 ),
             ),

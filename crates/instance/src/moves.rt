@@ -1,13 +1,13 @@
 ghost use Rattle.std.specs.Prelude.{◌≡◌, ◌+◌, ◌<◌, ◌≤ℤ◌, pos, nat_abs, All, length, map};
 ghost use Rattle.model.specs.step.Events.{moved};
 ghost use Rattle.model.specs.state.World.{IsApart, IsLow, moved_places};
-ghost use Rattle.instance.specs.Walk.{HasOffsets, IsOffset, IsPick, item_in, lots_of, put_at};
+ghost use Rattle.instance.specs.Walk.{HasOffsets, IsOffset, IsPick, item_in, lots_of};
 ghost use Rattle.broker_link.specs.Places.{place_of};
 ghost use Rattle.consumer_state.specs.Views.{IsSound, consumer_of};
 
 use crate::walk::{Pick, stored_at};
 use broker_link::{Fetched, Place, Stored};
-use consumer_state::Consumer;
+use consumer_state::{Consumer, put_position};
 
 /// The offset behind a record's.
 fn behind(stored: &Stored) -> i64
@@ -16,16 +16,6 @@ fn behind(stored: &Stored) -> i64
     ensures value { nat_abs result ≡ nat_abs stored.now.offset + 1 }
 {
     stored.offset + 1
-}
-
-/// Sets the position of a place in the list.
-pub(crate) fn put_position(assignment: &mut [Place], place: usize, position: i64)
-    requires place { place < length assignment.old }
-    requires low { pos 0 ≤ℤ position }
-    ensures places { map place_of assignment.new ≡ put_at (map place_of assignment.old) place (nat_abs position) }
-    ensures low { IsLow (map place_of assignment.old) → IsLow (map place_of assignment.new) }
-{
-    assignment[place].position = position;
 }
 
 /// Moves each position behind the last of its rows that was taken.

@@ -12,8 +12,8 @@ ghost use Rattle.instance.specs.Passing.{Passes};
 ghost use Rattle.broker_link.specs.Places.{at_in, place_of};
 
 use crate::Event;
-use crate::moves::put_position;
 use broker_link::{Edge, Fetched, Link, LinkNo, Place};
+use consumer_state::put_position;
 use gate_io::{Items, Text};
 use std::alloc::{AllocError, Global};
 

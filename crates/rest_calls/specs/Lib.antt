@@ -3,6 +3,7 @@ pub mod Json
 pub mod Body
 pub mod Create
 pub mod Assign
+pub mod Seek
 pub mod Keys
 pub mod Reading
 pub mod Reads

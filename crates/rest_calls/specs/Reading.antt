@@ -3,11 +3,13 @@
 use Rattle.std.specs.Prelude.{◌≡◌, ℕ, ◌⊎◌, List, [], ◌∷◌, Option, Some, None, Result, Ok, Err, Bool, true, false}
 use Rattle.serde_json.specs.Data.{Data}
 use Rattle.model.specs.state.Log.{TopicPart}
-use Rattle.model.specs.state.World.{Key, Settings}
+use Rattle.model.specs.state.World.{Edge, Key, Settings}
+use Rattle.model.specs.state.World.Edge.{Start, End}
+use Rattle.model.specs.step.Walk.{Place as Sought}
 use Rattle.model.specs.state.Entry.{Call, Given}
 use Rattle.model.specs.state.Entry.Call.{Produce, Ask, Of}
 use Rattle.model.specs.state.Entry.Question.{Brokers as AllBrokers, Topics as AllTopics, OneTopic, Parts, OnePart, EndOffsets as Edges}
-use Rattle.model.specs.state.Entry.Act.{Create as Creates, Delete as Deletes, Assign as Assigns, Assignments as AsksAssignments, Records as AsksRecords}
+use Rattle.model.specs.state.Entry.Act.{Create as Creates, Delete as Deletes, Subscription as AsksSubscription, Assign as Assigns, Assignments as AsksAssignments, Seek as Seeks, SeekEdge as SeeksEdge, Records as AsksRecords}
 use Rattle.http_conn.specs.declared.request.Request.{Request}
 use Rattle.rest_codes.specs.declared.response.Reply.{Reply}
 use Rattle.rest_codes.specs.declared.response.Reply.TheVariants.{Want, NoMethod}
@@ -23,11 +25,12 @@ use Rattle.rest_calls.specs.Body.{produced_by}
 use Rattle.forms.specs.declared.format.Format.{Format}
 use Rattle.rest_calls.specs.Create.{created_by, usual_settings}
 use Rattle.rest_calls.specs.Assign.{assigned_by}
+use Rattle.rest_calls.specs.Seek.{sought_by}
 use Rattle.rest_routes.specs.Media.{accepted_formats, format_in, is_acceptable, is_supported}
 use Rattle.rest_routes.specs.Query.{limits_of}
 use Rattle.rest_routes.specs.declared.media.Accepted.{Accepted}
 use Rattle.rest_routes.specs.declared.query.Limits.{Limits}
-use Rattle.rest_routes.specs.declared.place.Ask.TheVariants.{Delete, Assign, Assignments, Records}
+use Rattle.rest_routes.specs.declared.place.Ask.TheVariants.{Delete, Subscription, Assign, Assignments, Seek, SeekBeginning, SeekEnd, Records}
 
 -- what a request reads as: a call, a refusal with a code, or the one of a path that hasn't the method, with the number of the path's
 -- first place
@@ -41,6 +44,10 @@ pub data Read : Type 0 where
 -- the body lists these parts, or doesn't read
 abbrev pub AssignedAs : List ℕ → Option (List TopicPart) → Type 0
 AssignedAs body parts = (value : Option Data) × IsJson body value × (parts ≡ assigned_by value)
+
+-- the body lists these places, or doesn't read
+abbrev pub SoughtAs : List ℕ → Option (List Sought) → Type 0
+SoughtAs body places = (value : Option Data) × IsJson body value × (places ≡ sought_by value)
 
 -- The body gives this name and these settings, or is refused with this code. No body gives no name and the usual settings.
 abbrev pub CreatedAs : List ℕ → Result (List ℕ × Settings) ℕ → Type 0
@@ -73,6 +80,20 @@ abbrev pub assign_read : Key → Option (List TopicPart) → Read
 assign_read key (Some parts) = Calls (Of key (Assigns parts))
 assign_read key None = Refuses 422
 
+-- a Seek to the places, if they read
+abbrev pub seek_read : Key → Option (List Sought) → Read
+seek_read key (Some places) = Calls (Of key (Seeks places))
+seek_read key None = Refuses 422
+
+-- a Seek to an edge of the parts, if they read
+abbrev pub edge_read : Edge → Key → Option (List TopicPart) → Read
+edge_read edge key (Some parts) = Calls (Of key (SeeksEdge edge parts))
+edge_read edge key None = Refuses 422
+
+-- the parts of a body, each of whose positions is set to this edge
+abbrev pub EdgeReading : Edge → Key → List ℕ → Read → Type 0
+EdgeReading edge key body read = (parts : Option (List TopicPart)) × AssignedAs body parts × (read ≡ edge_read edge key parts)
+
 -- a Records with the formats that it accepts and its limits, if they read
 abbrev pub records_read : Key → Accepted → Option Limits → Read
 records_read key accepts (Some limits) = Calls (Of key (AsksRecords (formats_in accepts) limits.timeout limits.max_bytes))
@@ -90,8 +111,12 @@ ReadingAt (Partition name number partition.Description) request read = read ≡ 
 ReadingAt (Partition name number partition.EndOffsets) request read = read ≡ Calls (Ask (Edges (record { topic = name; partition = number })))
 ReadingAt (Group group) request read = (made : Result (List ℕ × Settings) ℕ) × CreatedAs request.body made × (read ≡ create_read group made)
 ReadingAt (Instance group name Delete) request read = read ≡ Calls (Of (key_in group name) Deletes)
+ReadingAt (Instance group name Subscription) request read = read ≡ Calls (Of (key_in group name) AsksSubscription)
 ReadingAt (Instance group name Assign) request read = (parts : Option (List TopicPart)) × AssignedAs request.body parts × (read ≡ assign_read (key_in group name) parts)
 ReadingAt (Instance group name Assignments) request read = read ≡ Calls (Of (key_in group name) AsksAssignments)
+ReadingAt (Instance group name Seek) request read = (places : Option (List Sought)) × SoughtAs request.body places × (read ≡ seek_read (key_in group name) places)
+ReadingAt (Instance group name SeekBeginning) request read = EdgeReading Start (key_in group name) request.body read
+ReadingAt (Instance group name SeekEnd) request read = EdgeReading End (key_in group name) request.body read
 ReadingAt (Instance group name Records) request read = read ≡ records_read (key_in group name) (accepted_formats request.accept) (limits_of request.query)
 
 -- what is said where this is so, and a refusal with the code where it isn't

@@ -3,8 +3,11 @@ use Rattle.std.specs.Prelude.{◌≡◌, Option, Some, None, Result, Ok, Err, �
 use Rattle.rest_calls.specs.declared.unread.Unread.{Unread}
 use Rattle.rest_calls.specs.declared.unread.Unread.TheVariants.{Unreadable, Invalid, Want}
 use Rattle.broker_link.specs.Fetching.{at_of}
+use Rattle.broker_link.specs.Places.{place_of}
 use Rattle.broker_link.specs.declared.fetch.TopicPart.{TopicPart}
+use Rattle.broker_link.specs.declared.place.Place.{Place}
 use Rattle.model.specs.state.Log.{TopicPart as Part}
+use Rattle.model.specs.step.Walk.{Place as Sought}
 use Rattle.model.specs.state.World.{Settings}
 use Rattle.rest_calls.specs.Reading.{Read, Calls, Refuses}
 use Rattle.rest_calls.specs.Views.{asked_of, name_in, settings_of, HasRecords, HasFewRecords, PartitionsFit}
@@ -54,3 +57,7 @@ IsWhole call = HasRecords call × HasFewRecords call × PartitionsFit call
 -- the parts in the model's terms
 abbrev pub parts_view : List TopicPart → List Part
 parts_view parts = map at_of parts
+
+-- and the places
+abbrev pub places_view : List Place → List Sought
+places_view places = map place_of places

@@ -4,9 +4,10 @@ use Rattle.model.specs.state.Entry as model
 use Rattle.model.specs.state.World as world
 use Rattle.model.specs.state.World.{Format}
 use Rattle.model.specs.state.World.Format.{Binary, Json, Avro}
-use Rattle.model.specs.state.Entry.Act.{Create as Creates, Delete as Deletes, Assign as Assigns, Assignments as AsksAssignments, Records as AsksRecords}
+use Rattle.model.specs.state.Entry.Act.{Create as Creates, Delete as Deletes, Subscription as AsksSubscription, Assign as Assigns, Assignments as AsksAssignments, Seek as Seeks, SeekEdge as SeeksEdge, Records as AsksRecords}
 use Rattle.model.specs.state.Entry.Call.{Produce as Asks, Ask as Questions, Of}
 use Rattle.broker_link.specs.Fetching.{at_of, edge_view}
+use Rattle.broker_link.specs.Places.{place_of}
 use Rattle.forms.specs.Formats.{format_of}
 use Rattle.rest_routes.specs.declared.media.Accepted.{Accepted}
 use Rattle.rest_calls.specs.Questions.{question_of}
@@ -16,7 +17,7 @@ use Rattle.rest_calls.specs.declared.call.Row.{Row}
 use Rattle.rest_calls.specs.declared.call.Batch.{Batch}
 use Rattle.rest_calls.specs.declared.call.Call.{Call}
 use Rattle.rest_calls.specs.declared.call.Settings.{Settings}
-use Rattle.rest_calls.specs.declared.call.Call.TheVariants.{Produce, Ask, Create, Delete, Assign, Assignments, Records}
+use Rattle.rest_calls.specs.declared.call.Call.TheVariants.{Produce, Ask, Create, Delete, Subscription, Assign, Assignments, Seek, SeekEdge, Records}
 
 -- the bytes of a key or value: null has none
 abbrev pub bytes_of : Payload → Option (List ℕ)
@@ -59,8 +60,11 @@ asked_of (Produce topic batch) = Asks topic (batch_of batch)
 asked_of (Ask question) = Questions (question_of question)
 asked_of (Create group name settings) = Of (key_in group (name_in name)) (Creates (settings_of settings))
 asked_of (Delete group instance) = Of (key_in group instance) Deletes
+asked_of (Subscription group instance) = Of (key_in group instance) AsksSubscription
 asked_of (Assign group instance parts) = Of (key_in group instance) (Assigns (map at_of parts))
 asked_of (Assignments group instance) = Of (key_in group instance) AsksAssignments
+asked_of (Seek group instance places) = Of (key_in group instance) (Seeks (map place_of places))
+asked_of (SeekEdge group instance edge parts) = Of (key_in group instance) (SeeksEdge (edge_view edge) (map at_of parts))
 asked_of (Records group instance accepts timeout bound) = Of (key_in group instance) (AsksRecords (formats_in accepts) timeout bound)
 
 -- no byte
@@ -85,6 +89,10 @@ counted n = min (n + 1) (2 ^ 64 - 1)
 abbrev pub entered : (worker unnamed : ℕ) → model.Call → model.Call
 entered worker unnamed (Of key (Creates settings)) = Of (key_in key.group (cond (is_empty key.instance) (given_name worker (counted unnamed)) key.instance)) (Creates settings)
 entered worker unnamed call = call
+
+-- an offset is from 0 to 9223372036854775807
+abbrev pub IsOffset : ℤ → Type 0
+IsOffset z = (n : ℕ) × (z ≡ pos n) × (n < 2 ^ 63)
 
 -- the number of a partition is from 0 to 2147483647
 abbrev pub IsNumber : ℤ → Type 0

@@ -53,7 +53,7 @@ fn topic_of(object: &Value) -> Option<&str>
 }
 
 #[tactic(auto, unfolding(crate::specs::Assign::part_of))]
-fn part_of(alloc: Global, object: &Value) -> Result<TopicPart, Unread>
+pub(crate) fn part_of(alloc: Global, object: &Value) -> Result<TopicPart, Unread>
     ensures { Reads at_of result (part_of (view object.now)) }
 {
     let Some(topic) = topic_of(object) else {

@@ -4,7 +4,7 @@ ghost use Rattle.model.specs.step.Look.{allows};
 ghost use Rattle.rest_calls.specs.Views.{formats_in};
 
 use crate::Question;
-use broker_link::{Edge, TopicPart};
+use broker_link::{Edge, Place, TopicPart};
 use forms::Format;
 use gate_io::{Items, Text};
 use rest_routes::Accepted;
@@ -42,7 +42,8 @@ pub struct Settings {
     pub timeout_ms: u32,
 }
 
-/// What a client asks of the gateway. A Create without a name gets one before it is answered.
+/// What a client asks of the gateway. A Create without a name gets one before it is answered. A Seek has
+/// the offset that is to be read next in each partition, a SeekEdge the edge that it is to be.
 /// `accepts` are the formats that the request accepts. `timeout`, in milliseconds, and `max_bytes` are
 /// those of the query, where it gives them.
 #[derive(Debug, Drop)]
@@ -61,6 +62,10 @@ pub enum Call {
         group: Text,
         instance: Text,
     },
+    Subscription {
+        group: Text,
+        instance: Text,
+    },
     Assign {
         group: Text,
         instance: Text,
@@ -69,6 +74,17 @@ pub enum Call {
     Assignments {
         group: Text,
         instance: Text,
+    },
+    Seek {
+        group: Text,
+        instance: Text,
+        places: Items<Place>,
+    },
+    SeekEdge {
+        group: Text,
+        instance: Text,
+        edge: Edge,
+        parts: Items<TopicPart>,
     },
     Records {
         group: Text,

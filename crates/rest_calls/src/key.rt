@@ -46,12 +46,23 @@ fn bytes_of(alloc: Global, call: &Call) -> Result<Items<u8>, AllocError>
         Call::Ask(question) => Items::from_slice(alloc, topic_asked(question).as_bytes()),
         Call::Create { group, name, .. } => joined(alloc, group, name_in(name)),
         Call::Delete { group, instance } => joined(alloc, group, instance.as_str()),
+        Call::Subscription { group, instance } => joined(alloc, group, instance.as_str()),
         Call::Assign {
             group,
             instance,
             ..
         } => joined(alloc, group, instance.as_str()),
         Call::Assignments { group, instance } => joined(alloc, group, instance.as_str()),
+        Call::Seek {
+            group,
+            instance,
+            ..
+        } => joined(alloc, group, instance.as_str()),
+        Call::SeekEdge {
+            group,
+            instance,
+            ..
+        } => joined(alloc, group, instance.as_str()),
         Call::Records {
             group,
             instance,

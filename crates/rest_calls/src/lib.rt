@@ -8,6 +8,7 @@ mod create;
 mod key;
 mod question;
 mod reading;
+mod seek;
 mod sent;
 mod shard;
 mod unread;

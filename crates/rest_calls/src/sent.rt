@@ -1,7 +1,8 @@
 ghost use Rattle.std.specs.Prelude.{◌≡◌, ◌<◌, ◌^◌, All, IfOk, IfSome, length, nat_abs, option_map};
-ghost use Rattle.rest_calls.specs.Reading.{ReadingAt, records_in};
+ghost use Rattle.broker_link.specs.Fetching.{edge_view};
+ghost use Rattle.rest_calls.specs.Reading.{EdgeReading, ReadingAt, records_in};
 ghost use Rattle.rest_calls.specs.Reads.{GivesCall, IsWhole, Reads};
-ghost use Rattle.rest_calls.specs.Views.{givens_of, IsNumber, PartitionFits};
+ghost use Rattle.rest_calls.specs.Views.{givens_of, key_in, IsNumber, PartitionFits};
 ghost use Rattle.rest_routes.specs.Media.{format_in};
 ghost use Rattle.rest_routes.specs.declared.place.Place.TheVariants as place;
 ghost use Rattle.rest_routes.specs.declared.place.TopicAsk.TheVariants as topic_ask;
@@ -13,8 +14,9 @@ use crate::body::read_body;
 use crate::call::{Batch, Call};
 use crate::create::{Created, read_create};
 use crate::question::Question;
+use crate::seek::read_places;
 use crate::unread::Unread;
-use broker_link::TopicPart;
+use broker_link::{Edge, TopicPart};
 use gate_io::Text;
 use http_conn::Request;
 use rest_routes::{
@@ -91,6 +93,43 @@ fn assign(alloc: Global, group: Text, instance: Text, request: &Request) -> Resu
     }
 }
 
+fn seek(alloc: Global, group: Text, instance: Text, request: &Request) -> Result<Call, Unread>
+    ensures reads { GivesCall result
+        (ReadingAt (place.Instance group instance ask.Seek) request.now) }
+    ensures whole { IfOk result IsWhole }
+{
+    match read_places(alloc, request.body.as_slice()) {
+        Ok(places) => Ok(Call::Seek {
+            group,
+            instance,
+            places,
+        }),
+        Err(e) => Err(e),
+    }
+}
+
+fn seek_edge(
+    alloc: Global,
+    group: Text,
+    instance: Text,
+    edge: Edge,
+    request: &Request,
+) -> Result<Call, Unread>
+    ensures reads { GivesCall result
+        (EdgeReading (edge_view edge) (key_in group instance) request.now.body) }
+    ensures whole { IfOk result IsWhole }
+{
+    match read_parts(alloc, request.body.as_slice()) {
+        Ok(parts) => Ok(Call::SeekEdge {
+            group,
+            instance,
+            edge,
+            parts,
+        }),
+        Err(e) => Err(e),
+    }
+}
+
 fn records(alloc: Global, group: Text, instance: Text, request: &Request) -> Result<Call, Unread>
     ensures reads { GivesCall result
         (ReadingAt (place.Instance group instance ask.Records) request.now) }
@@ -133,9 +172,19 @@ pub(crate) fn read_at(alloc: Global, place: Place, request: &Request) -> Result<
         }
         Place::Group(group) => create(alloc, group, request),
         Place::Instance(group, instance, Ask::Delete) => Ok(Call::Delete { group, instance }),
+        Place::Instance(group, instance, Ask::Subscription) => {
+            Ok(Call::Subscription { group, instance })
+        }
         Place::Instance(group, instance, Ask::Assign) => assign(alloc, group, instance, request),
         Place::Instance(group, instance, Ask::Assignments) => {
             Ok(Call::Assignments { group, instance })
+        }
+        Place::Instance(group, instance, Ask::Seek) => seek(alloc, group, instance, request),
+        Place::Instance(group, instance, Ask::SeekBeginning) => {
+            seek_edge(alloc, group, instance, Edge::Start, request)
+        }
+        Place::Instance(group, instance, Ask::SeekEnd) => {
+            seek_edge(alloc, group, instance, Edge::End, request)
         }
         Place::Instance(group, instance, Ask::Records) => records(alloc, group, instance, request),
     }

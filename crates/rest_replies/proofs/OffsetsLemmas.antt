@@ -1,6 +1,6 @@
 -- From the texts of records' answers to the text of all of them, and to the reply.
 use Rattle.std.proofs.Common.{◌≡◌, ℕ, ◌+◌, ◌<◌, ◌≤◌, List, [], ◌∷◌, ◌++◌, length, take, map, get_or, refl, ap, sym, ◌∙◌, append_assoc, arith, inl, true, false, cond}
-use Rattle.std.specs.Prelude.{codes, ◌==◌, None}
+use Rattle.std.specs.Prelude.{codes, decimal, ◌==◌, None}
 use Rattle.std.proofs.lemmas.List.{map_more, length-map, length-take, take_all}
 use Rattle.model.specs.texts.Texts.{is_retriable, joined, placed_text}
 use Rattle.model.specs.texts.Texts.Response.{Body}
@@ -30,6 +30,12 @@ texts_of [] = refl
 texts_of (t ∷ ts) = ap (λ l. told_text t ∷ l) (texts_of ts)
 
 -- a record's answer is that of its code
+-- the pieces of the answer to a record that was stored
+pub stored_put : (partition offset : ℕ) (before a x b c y d now : List ℕ) → a ≡ before ++ codes "{\"partition\":" → x ≡ decimal partition → b ≡ a ++ x → c ≡ b ++ codes ",\"offset\":" → y ≡ decimal offset → d ≡ c ++ y
+    → now ≡ d ++ codes ",\"error_code\":null,\"error\":null}" → now ≡ before ++ stored_text partition offset
+unfolding stored_text
+stored_put partition offset before a x b c y d now a_is x_is b_is c_is y_is d_is now_is = rw (now_is, d_is, y_is, c_is, b_is, x_is, a_is) (simp append_assoc)
+
 pub stored_is : (t : Told) → is_zero t.code ≡ true → stored_text t.partition t.offset ≡ placed_text (placed_of t)
 unfolding stored_text
 stored_is t e = rw e refl

@@ -1,6 +1,7 @@
 pub mod Failure
 pub mod Creation
 pub mod Listing
+pub mod Subscription
 pub mod Answer
 pub mod Offsets
 pub mod Forms

@@ -8,6 +8,7 @@ mod found;
 mod listing;
 mod offsets;
 mod row;
+mod subscription;
 mod topics;
 
 pub use answer::{ProduceNo, Told};
@@ -17,4 +18,5 @@ pub use found::{AskNo, Found};
 pub use listing::listed;
 pub use offsets::reply_to;
 pub use row::put_row;
+pub use subscription::no_subscription;
 pub use topics::found_reply;

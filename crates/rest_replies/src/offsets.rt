@@ -8,6 +8,7 @@ ghost use Rattle.rest_replies.specs.Offsets.{SaysAnswer, SaysProduced, offsets_t
 use crate::failure::{is_retriable, link_failure, refused};
 use crate::{ProduceNo, Told};
 use gate_io::{Items, Text};
+use itoa::Buffer;
 use rest_codes::{Media, Reply};
 use std::alloc::{AllocError, Global};
 
@@ -24,13 +25,18 @@ fn kind_of(told: &Told) -> &'static str
     if is_retriable(told.code) { "2" } else { "1" }
 }
 
+/// Appends the answer to a record that was stored.
 #[tactic(auto, unfolding(crate::specs::Offsets::stored_text))]
-fn stored_text(alloc: Global, partition: u32, offset: u64) -> Result<String, AllocError>
-    ensures { IfOk result (λ s. string_bytes s ≡ stored_text partition offset) }
+fn put_stored_at(text: &mut String, partition: u32, offset: u64) -> Result<(), AllocError>
+    ensures { OnOk result (string_bytes text.new ≡ string_bytes text.old ++ stored_text partition offset) }
 {
-    format!(in alloc;
-        "{{\"partition\":{partition},\"offset\":{offset},\"error_code\":null,\"error\":null}}"
-    )
+    let mut digits = Buffer::new();
+    text.push_str("{\"partition\":")?;
+    text.push_str(digits.format(partition))?;
+    text.push_str(",\"offset\":")?;
+    text.push_str(digits.format(offset))?;
+    text.push_str(",\"error_code\":null,\"error\":null}")?;
+    Ok(())
 }
 
 #[tactic(auto, unfolding(crate::specs::Offsets::code_text))]
@@ -55,15 +61,17 @@ fn failed_text(
     )
 }
 
-fn placed_text(alloc: Global, told: &Told) -> Result<String, AllocError>
-    ensures { IfOk result (λ s. string_bytes s ≡ placed_text (placed_of told.now)) }
+/// Appends the answer to a record.
+fn put_placed(text: &mut String, alloc: Global, told: &Told) -> Result<(), AllocError>
+    ensures { OnOk result (string_bytes text.new ≡ string_bytes text.old ++ placed_text (placed_of told.now)) }
 {
     if is_stored(told) {
-        return stored_text(alloc, told.partition, told.offset);
+        return put_stored_at(text, told.partition, told.offset);
     }
     let reason = code_text(alloc, told)?;
-    let reason = reason.as_str();
-    failed_text(alloc, told.partition, kind_of(told), reason)
+    let one = failed_text(alloc, told.partition, kind_of(told), reason.as_str())?;
+    text.push_str(one.as_str())?;
+    Ok(())
 }
 
 fn push_one(text: &mut String, alloc: Global, first: bool, told: &Told) -> Result<(), AllocError>
@@ -72,15 +80,19 @@ fn push_one(text: &mut String, alloc: Global, first: bool, told: &Told) -> Resul
     if !first {
         text.push_str(",")?;
     }
-    let one = placed_text(alloc, told)?;
-    text.push_str(one.as_str())
+    put_placed(text, alloc, told)
 }
+
+/// About so many bytes stand around the answers, and in that to one record.
+const ROOM: usize = 64;
 
 /// The answers of a produce, in the order of its records.
 fn offsets_text(alloc: Global, told: &[Told]) -> Result<String, AllocError>
     ensures { IfOk result (λ s. string_bytes s ≡ offsets_text (map placed_of told.now)) }
 {
-    let mut text = String::from_str(alloc, "{\"offsets\":[")?;
+    let room = told.len().saturating_add(1).saturating_mul(ROOM);
+    let mut text = String::with_capacity(alloc, room)?;
+    text.push_str("{\"offsets\":[")?;
     for (i, one) in told.iter().enumerate() {
         push_one(&mut text, alloc, i == 0, one)?;
     }

@@ -12,7 +12,7 @@ use Rattle.rest_routes.specs.declared.place.Place.{Place}
 use Rattle.rest_routes.specs.declared.place.Place.TheVariants.{Topic, Partition, Group, Instance}
 use Rattle.rest_routes.specs.declared.place.TopicAsk.TheVariants.{Produce}
 use Rattle.rest_routes.specs.declared.place.PartitionAsk.TheVariants as partition
-use Rattle.rest_routes.specs.declared.place.Ask.TheVariants.{Assign, Records}
+use Rattle.rest_routes.specs.declared.place.Ask.TheVariants.{Assign, Seek, SeekBeginning, SeekEnd, Records}
 
 -- what stands before the parameters
 abbrev pub is_semicolon : ℕ → Bool
@@ -93,10 +93,13 @@ is_described [] type = true
 is_described (b ∷ bs) type = holds_general type
 
 -- The place reads a body of the type that the request names, as it stands: a produce only one of records in a format that is built, a
--- Create and an Assign any of the general types, if there is a body. The other places read none.
+-- Create, an Assign and the seeks any of the general types, if there is a body. The other places read none.
 abbrev pub is_supported : Place → Request → Bool
 is_supported (Topic topic Produce) request = not request.encoded && is_some (format_in request.content_type)
 is_supported (Partition topic number partition.Produce) request = not request.encoded && is_some (format_in request.content_type)
 is_supported (Group group) request = not request.encoded && is_described request.body request.content_type
 is_supported (Instance group name Assign) request = not request.encoded && is_described request.body request.content_type
+is_supported (Instance group name Seek) request = not request.encoded && is_described request.body request.content_type
+is_supported (Instance group name SeekBeginning) request = not request.encoded && is_described request.body request.content_type
+is_supported (Instance group name SeekEnd) request = not request.encoded && is_described request.body request.content_type
 is_supported place request = true

@@ -55,8 +55,12 @@ names_at r path = both (instance_name_of (first_parameter path)) (instance_name_
 -- what is asked of an instance, where that is built
 abbrev pub ask_at : Route → Verb → Option Ask
 ask_at route.Instance verb.Delete = Some ask.Delete
+ask_at route.Subscription verb.Get = Some ask.Subscription
 ask_at route.Assignments verb.Post = Some ask.Assign
 ask_at route.Assignments verb.Get = Some ask.Assignments
+ask_at route.Positions verb.Post = Some ask.Seek
+ask_at route.Beginning verb.Post = Some ask.SeekBeginning
+ask_at route.End verb.Post = Some ask.SeekEnd
 ask_at route.Records verb.Get = Some ask.Records
 ask_at r v = None
 

@@ -1,4 +1,4 @@
-ghost use Rattle.std.specs.Prelude.{◌≡◌, ◌<◌, IfSome, length};
+ghost use Rattle.std.specs.Prelude.{◌≡◌, ◌<◌, IfSome, length, true};
 ghost use Rattle.std.specs.List.{before_first, list_any, position, slice_split};
 ghost use Rattle.http_head.specs.Member.{is_comma};
 ghost use Rattle.rest_routes.specs.Media.{accepted_by, accepted_formats, accepts, format_in, format_named, has_one, has_records, holds_general, is_acceptable, is_described, is_general, is_in, is_semicolon, is_supported, is_wildcard, names};
@@ -26,10 +26,12 @@ fn type_in(member: &[u8]) -> &[u8]
     }
 }
 
+/// A member names the type. One that is written just as the type is told at once.
 fn names(name: &[u8], member: &[u8]) -> bool
+    requires { names name.now name.now ≡ true }
     ensures { result ≡ names name.now member.now }
 {
-    is_word(name, type_in(member))
+    member == name || is_word(name, type_in(member))
 }
 
 #[tactic(auto, unfolding(crate::specs::Media::is_general))]
@@ -197,7 +199,8 @@ pub fn is_supported(place: &Place, request: &Request) -> bool
         Place::Topic(_, TopicAsk::Produce) | Place::Partition(_, _, PartitionAsk::Produce) => {
             !request.encoded && format_in(&request.content_type).is_some()
         }
-        Place::Group(_) | Place::Instance(_, _, Ask::Assign) => {
+        Place::Group(_)
+        | Place::Instance(_, _, Ask::Assign | Ask::Seek | Ask::SeekBeginning | Ask::SeekEnd) => {
             !request.encoded && is_described(request.body.as_slice(), &request.content_type)
         }
         _ => true,

@@ -29,8 +29,12 @@ pub enum PartitionAsk {
 #[derive(Clone, Copy, Debug, PartialEq, Eq)]
 pub enum Ask {
     Delete,
+    Subscription,
     Assign,
     Assignments,
+    Seek,
+    SeekBeginning,
+    SeekEnd,
     Records,
 }
 
@@ -143,8 +147,12 @@ fn ask_at(route: Route, verb: Verb) -> Option<Ask>
 {
     match (route, verb) {
         (Route::Instance, Verb::Delete) => Some(Ask::Delete),
+        (Route::Subscription, Verb::Get) => Some(Ask::Subscription),
         (Route::Assignments, Verb::Post) => Some(Ask::Assign),
         (Route::Assignments, Verb::Get) => Some(Ask::Assignments),
+        (Route::Positions, Verb::Post) => Some(Ask::Seek),
+        (Route::Beginning, Verb::Post) => Some(Ask::SeekBeginning),
+        (Route::End, Verb::Post) => Some(Ask::SeekEnd),
         (Route::Records, Verb::Get) => Some(Ask::Records),
         _ => None,
     }

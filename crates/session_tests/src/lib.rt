@@ -10,6 +10,8 @@ mod exchange;
 #[cfg(test)]
 mod json;
 #[cfg(test)]
+mod seeks;
+#[cfg(test)]
 mod sessions;
 #[cfg(test)]
 mod topics;

@@ -10,7 +10,8 @@ use Rattle.broker_link.specs.Places.{place_of}
 use Rattle.model.proofs.Stretches.{keeps_itself}
 use Rattle.instance.proofs.Passing.{passes_on}
 use Rattle.instance.proofs.Gathering.{if_ok_both, all_are_inside, hand_of}
-use Rattle.instance.proofs.Setting.{sets_none, sets_back, set_inside, order_set, have_set, set_is, ats_set_all}
+use Rattle.consumer_state.proofs.PositionLemmas.{ats_set_all, have_set, order_set}
+use Rattle.instance.proofs.Setting.{sets_none, sets_back, set_inside, set_is}
 use Rattle.instance.proofs.look.gather.Goals as goal
 
 pub returns-then-is_empty-clause-set : goal.returns-then-is_empty-clause-set

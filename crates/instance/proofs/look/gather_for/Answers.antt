@@ -6,7 +6,7 @@ use Rattle.model.specs.step.Walk.{Place}
 use Rattle.model.specs.state.World.{IsInOrder, IsLow}
 use Rattle.broker_link.specs.declared.place.Place.{Place as CodePlace}
 use Rattle.broker_link.specs.Places.{place_of}
-use Rattle.instance.proofs.Setting.{order_set}
+use Rattle.consumer_state.proofs.PositionLemmas.{order_set}
 use Rattle.instance.proofs.look.gather_for.Goals as goal
 
 pub returns-clause-sound : goal.returns-clause-sound

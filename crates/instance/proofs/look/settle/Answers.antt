@@ -1,4 +1,4 @@
-use Rattle.std.proofs.Common.{◌≡◌, refl, List, [], ◌∷◌, ◌++◌, map, length, nat_le, ◌*◌, ap, sym, ◌∙◌, subst, arith, Some, None, ℕ}
+use Rattle.std.proofs.Common.{refl, List, [], ◌∷◌, ◌++◌, map, length, nat_le, ◌*◌, ap, sym, ◌∙◌, subst, arith, Some}
 use Rattle.std.specs.Prelude.{is_some, string_bytes, codes}
 use Rattle.std.proofs.lemmas.Grind.{common_steps}
 use Rattle.std.proofs.lemmas.List.{append-nil, length-map}

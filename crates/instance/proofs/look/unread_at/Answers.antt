@@ -1,6 +1,5 @@
-use Rattle.std.proofs.Common.{◌≡◌, ap, sym, ◌∙◌, subst, arith, List, ℕ, ℤ, nat_abs, slice_index_or, to_z, of_z, w32, w64}
+use Rattle.std.proofs.Common.{◌≡◌, ap, sym, ◌∙◌, subst, arith, List, ℕ, nat_abs, slice_index_or, to_z, of_z, w32, w64}
 use Rattle.std.proofs.lemmas.Int.{to_z-of_z}
-use Rattle.broker_link.specs.Fetching.{row_of}
 use Rattle.broker_link.specs.declared.link.Stored.{Stored}
 use Rattle.model.specs.state.Log.{Row, TopicPart}
 use Rattle.std.specs.Prelude.{IfOk, Result, Ok, Err}
@@ -11,7 +10,7 @@ use Rattle.broker_link.specs.Places.{at_in}
 use Rattle.broker_link.specs.declared.place.Place.{Place}
 use Rattle.rest_codes.specs.declared.response.Reply.{Reply}
 use Rattle.rest_replies.specs.Failure.{Says}
-use Rattle.instance.specs.Walk.{item_in, lots_of, stored_in}
+use Rattle.instance.specs.Walk.{item_in, lots_of}
 use Rattle.instance.proofs.Picking.{row_is, unread_item}
 use Rattle.instance.proofs.look.unread_at.Goals as goal
 

@@ -1,7 +1,8 @@
 use Rattle.std.proofs.Common.{◌≡◌, ◌<◌, ℤ, map, length, pos, ◌≤ℤ◌, nat_abs, slice_index_or, sym, ap, ◌∙◌, subst, arith, to_z, of_z, w64}
 use Rattle.std.proofs.lemmas.Int.{to_z-of_z}
 use Rattle.instance.specs.declared.walk.Pick.{Pick}
-use Rattle.instance.specs.Walk.{IsOffset, put_at}
+use Rattle.consumer_state.specs.Positions.{set_at}
+use Rattle.instance.specs.Walk.{IsOffset}
 use Rattle.broker_link.specs.Places.{place_of}
 use Rattle.instance.proofs.Picking.{has_row, pick_within, stored_offset}
 use Rattle.instance.proofs.Moving.{moved_none, advance_more}
@@ -36,6 +37,6 @@ loop-pick-preserved c =
     record {
       places = advance_more c.args.assignment.now c.loop-pick.assignment _ c.args.fetched.now c.args.picks.now c.loop-pick.pick-index p any c.stored_at.result.now (nat_abs c.behind-next.result)
           c.requires.same c.requires.apart c.loop-pick-test.true (λ i. p) (c.requires.picks c.loop-pick.pick-index any c.loop-pick-test.true) c.stored_at.ensures c.behind-next.ensures.value c.loop-pick.invariant.places
-          (c.put_position.ensures.places ∙ ap (λ (z : ℤ). put_at (map place_of c.loop-pick.assignment) p.lot (nat_abs z)) signed);
+          (c.put_position.ensures.places ∙ ap (λ (z : ℤ). set_at (map place_of c.loop-pick.assignment) p.lot (nat_abs z)) signed);
       low = λ h. c.put_position.ensures.low (c.loop-pick.invariant.low h);
     }

@@ -1,10 +1,9 @@
-use Rattle.std.proofs.Common.{◌≡◌, ap, sym, ◌∙◌, subst, arith, List, ℕ, ℤ, to_z, of_z, w32, slice_index_or}
-use Rattle.std.specs.Prelude.{string_bytes, nat_abs, Result, Ok, Err}
+use Rattle.std.proofs.Common.{◌≡◌, ap, sym, ◌∙◌, subst, arith, ℤ, to_z, of_z, w32, slice_index_or}
+use Rattle.std.specs.Prelude.{string_bytes, Result, Ok, Err}
 use Rattle.forms.specs.declared.format.FormNo.{FormNo}
 use Rattle.std.proofs.lemmas.Int.{to_z-of_z}
 use Rattle.forms.specs.Formats.{format_of}
 use Rattle.model.specs.step.Walk.{Item}
-use Rattle.broker_link.specs.Fetching.{row_of}
 use Rattle.broker_link.specs.declared.place.Place.{Place}
 use Rattle.rest_replies.specs.Row.{RowSo}
 use Rattle.instance.specs.Walk.{item_in, lots_of}

@@ -9,4 +9,4 @@ loop-i-preserved c =
     answers_more c.args.told.now c.loop-i.i any (codes "{\"offsets\":[") (string_bytes c.loop-i.text) (string_bytes c.push_one.new.text) c.loop-i-test.true c.loop-i.invariant c.in_ok-push_one.ensures
 
 pub returns : goal.returns
-returns c = answers_whole c.args.told.now c.loop-i.i (string_bytes c.loop-i.text) (string_bytes c.push_str.new.self) c.loop-i-test.false c.loop-i.invariant c.in_ok-push_str.ensures.bytes
+returns c = answers_whole c.args.told.now c.loop-i.i (string_bytes c.loop-i.text) (string_bytes c.push_str-2.new.self) c.loop-i-test.false c.loop-i.invariant c.in_ok-push_str-2.ensures.bytes

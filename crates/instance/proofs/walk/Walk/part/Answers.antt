@@ -1,5 +1,5 @@
-use Rattle.std.proofs.Common.{◌≡◌, ◌<◌, ◌+◌, List, [], ◌∷◌, map, drop, length, arith, ap, sym, ◌∙◌, slice_index_or, subst, None}
-use Rattle.std.proofs.lemmas.List.{drop_all, drop_more, length-map}
+use Rattle.std.proofs.Common.{◌≡◌, ◌<◌, ◌+◌, List, [], ◌∷◌, map, drop, length, arith, ap, sym, ◌∙◌}
+use Rattle.std.proofs.lemmas.List.{drop_all, length-map}
 use Rattle.json.specs.Print.{quoted}
 use Rattle.forms.specs.Formats.{format_of}
 use Rattle.model.specs.state.Log.{Row}

@@ -1,6 +1,6 @@
-use Rattle.std.proofs.Common.{◌≡◌, ◌+◌, ◌++◌, List, [], ◌∷◌, map, length, arith, ap, sym, ◌∙◌, subst, refl, ℕ, nat_le, Some}
+use Rattle.std.proofs.Common.{◌≡◌, ◌+◌, ◌++◌, List, [], ◌∷◌, map, length, arith, ap, sym, ◌∙◌, subst, refl, nat_le}
 use Rattle.std.specs.List.{All}
-use Rattle.std.specs.Prelude.{is_none, option_map, string_bytes}
+use Rattle.std.specs.Prelude.{is_none, string_bytes}
 use Rattle.std.proofs.lemmas.Grind.{common_steps}
 use Rattle.std.proofs.lemmas.List.{length-map, map_push}
 use Rattle.std.proofs.lemmas.List.Elements.{All-push}
@@ -10,7 +10,7 @@ use Rattle.model.specs.step.Walk.{Lot, Item, Rule, bytes_of, walk_part}
 use Rattle.broker_link.specs.Fetching.{row_of}
 use Rattle.instance.specs.declared.walk.Pick.{Pick}
 use Rattle.instance.specs.declared.walk.Walk.{Walk}
-use Rattle.instance.specs.Walk.{IsPick, IsSoFar, item_in, lots_of, rule_of, seen}
+use Rattle.instance.specs.Walk.{IsPick, item_in, lots_of, rule_of, seen}
 use Rattle.instance.proofs.Picking.{row_is}
 use Rattle.instance.proofs.Walking.{full_ends, is_full_read, lost_ends, is_put, not_put, takes, seen_more, text_more, bytes_more}
 use Rattle.instance.proofs.walk.Walk.row.Goals as goal
